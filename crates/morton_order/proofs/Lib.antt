@@ -1,1 +1,3 @@
+pub mod KeyBits
 pub mod Lattice
+pub mod Lists

@@ -3,7 +3,7 @@ use Rattle.std.specs.Prelude.{◌≡◌, ℕ, zero, suc, ◌+◌, ◌-◌, ◌*�
 use Rattle.morton_order.specs.declared.space.Loc.{Loc}
 
 -- the lowest n bits of three numbers by turns, the lowest bit of the first at the bottom
-abbrev pub interleaved : ℕ → ℕ → ℕ → ℕ → ℕ
+unfoldable pub interleaved : ℕ → ℕ → ℕ → ℕ → ℕ
 interleaved zero x y z = 0
 interleaved (suc n) x y z = x % 2 + 2 * (y % 2) + 4 * (z % 2) + 8 * interleaved n (x / 2) (y / 2) (z / 2)
 

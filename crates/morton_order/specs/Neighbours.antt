@@ -40,9 +40,13 @@ at_coordinates level _ _ _ = None
 abbrev pub at_offsets : Shape → Loc → ℕ → Option Loc
 at_offsets s l k = at_coordinates l.level (at_offset s l 0 (k % 3)) (at_offset s l 1 (k / 3 % 3)) (at_offset s l 2 (k / 9))
 
--- the neighbours over faces, edges and corners, x1 fastest; those outside the domain are left out, wrapped ones may repeat
+-- the neighbour of that number: none at the zero offset, which is number 13, and none outside of the domain
+abbrev pub neighbour : Shape → Loc → ℕ → Option Loc
+neighbour s l k = cond (k == 13) None (at_offsets s l k)
+
+-- the neighbours over faces, edges and corners, x1 fastest; wrapped ones may repeat
 abbrev pub neighbours : Shape → Loc → List Loc
-neighbours s l = filter_map (λ k. cond (k == 13) None (at_offsets s l k)) (range_with_len 0 27)
+neighbours s l = filter_map (neighbour s l) (range_with_len 0 27)
 
 -- two places along an axis of n are the same or next to each other, also round its end where it wraps
 abbrev pub is_near : ℕ → Bool → ℕ → ℕ → Bool

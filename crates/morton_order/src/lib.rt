@@ -5,8 +5,12 @@
 //! coordinate 0 at every level.
 #![tactic(auto)]
 
+mod around;
+mod key;
 mod locations;
 mod space;
 
-pub use locations::parent;
+pub use around::{Around, neighbours};
+pub use key::key_of;
+pub use locations::{across, child, parent};
 pub use space::{Loc, Shape, Side};
