@@ -1,0 +1,4 @@
+pub mod Behind
+pub mod Leaves
+pub mod Least
+pub mod Tree

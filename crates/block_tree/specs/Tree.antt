@@ -1,0 +1,35 @@
+-- A tree of blocks is a set of inner nodes, given as a test of locations.
+use Rattle.std.specs.Prelude.{◌≡◌, ◌==◌, ℕ, ◌<◌, ◌≤◌, Bool, ◌&&◌, ◌||◌, List, IsTrue}
+use Rattle.std.specs.List.{list_any}
+use Rattle.morton_order.specs.declared.space.Loc.{Loc}
+use Rattle.morton_order.specs.declared.space.Shape.{Shape}
+use Rattle.morton_order.specs.Space.{IsIn, parent}
+use Rattle.morton_order.specs.Neighbours.{AreNeighbours}
+
+-- whether two locations are one
+abbrev pub same_loc : Loc → Loc → Bool
+same_loc l m = l.level == m.level && l.l1 == m.l1 && l.l2 == m.l2 && l.l3 == m.l3
+
+-- whether a location stands in a list
+abbrev pub is_listed : List Loc → Loc → Bool
+is_listed list l = list_any (same_loc l) list
+
+-- the inner nodes lie in the domain, leave room for children, and are closed under parent
+pub record IsTree (s : Shape) (inner : Loc → Bool) : Type 0 where
+  pub inside : (l : Loc) → IsTrue (inner l) → IsIn s l
+  pub above_finest : (l : Loc) → IsTrue (inner l) → l.level < 10
+  pub closed : (l : Loc) → IsTrue (inner l) → 1 ≤ l.level → IsTrue (inner (parent s.dims l))
+
+-- whether a location is a node of the tree, inner or a leaf: a root, or a child of an inner node
+abbrev pub is_node : Shape → (Loc → Bool) → Loc → Bool
+is_node s inner l = l.level == 0 || inner (parent s.dims l)
+
+-- a leaf: a node that is not inner
+pub record IsLeaf (s : Shape) (inner : Loc → Bool) (l : Loc) : Type 0 where
+  pub inside : IsIn s l
+  pub node : IsTrue (is_node s inner l)
+  pub outer : ¬ (IsTrue (inner l))
+
+-- balanced two to one: all that an inner node touches on its own level, over faces, edges and corners, are nodes
+abbrev pub IsBalanced : Shape → (Loc → Bool) → Type 0
+IsBalanced s inner = (l m : Loc) → IsTrue (inner l) → IsIn s m → AreNeighbours s l m → IsTrue (is_node s inner m)

@@ -1,0 +1,7 @@
+//! The tree of blocks: what its leaves are, when it is balanced two to one, the least balanced tree that holds what is
+//! wanted, and what lies behind a side of a leaf.
+#![tactic(auto)]
+
+mod boxes;
+
+pub use boxes::StaticBox;
