@@ -1,0 +1,12 @@
+pub mod Rules
+pub mod Sums
+pub mod Mesh
+pub mod Look
+pub mod Faces
+pub mod Stage
+pub mod Reaction
+pub mod Tags
+pub mod Remesh
+pub mod Mask
+pub mod Run
+pub mod Texts

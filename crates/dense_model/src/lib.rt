@@ -1,0 +1,6 @@
+//! The dense run: every field on every block, advanced stage by stage.
+#![tactic(auto)]
+
+mod laws;
+
+pub use laws::worked_shares;

@@ -1,0 +1,3 @@
+pub mod Portion
+pub mod Rate
+pub mod Share
