@@ -10,3 +10,5 @@ pub mod Remesh
 pub mod Mask
 pub mod Run
 pub mod Texts
+pub mod Worked
+pub mod WorkedChanges

@@ -3,4 +3,4 @@
 
 mod laws;
 
-pub use laws::worked_shares;
+pub use laws::{worked_changes, worked_rows};
