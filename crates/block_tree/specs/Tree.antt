@@ -3,12 +3,8 @@ use Rattle.std.specs.Prelude.{◌≡◌, ◌==◌, ℕ, ◌<◌, ◌≤◌, Bool
 use Rattle.std.specs.List.{list_any}
 use Rattle.morton_order.specs.declared.space.Loc.{Loc}
 use Rattle.morton_order.specs.declared.space.Shape.{Shape}
-use Rattle.morton_order.specs.Space.{IsIn, parent}
+use Rattle.morton_order.specs.Space.{IsIn, parent, same_loc}
 use Rattle.morton_order.specs.Neighbours.{AreNeighbours}
-
--- whether two locations are one
-abbrev pub same_loc : Loc → Loc → Bool
-same_loc l m = l.level == m.level && l.l1 == m.l1 && l.l2 == m.l2 && l.l3 == m.l3
 
 -- whether a location stands in a list
 abbrev pub is_listed : List Loc → Loc → Bool

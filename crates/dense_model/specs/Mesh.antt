@@ -3,8 +3,8 @@ use Rattle.std.specs.Prelude.{◌≡◌, ◌==◌, ℕ, ◌+◌, ◌*◌, ◌/�
 use Rattle.std.specs.List.{position_or_len, slice_index_or}
 use Rattle.morton_order.specs.declared.space.Loc.{Loc}
 use Rattle.morton_order.specs.declared.space.Shape.{Shape}
-use Rattle.morton_order.specs.Space.{root_along}
-use Rattle.block_tree.specs.Tree.{is_listed, same_loc}
+use Rattle.morton_order.specs.Space.{root_along, same_loc}
+use Rattle.block_tree.specs.Tree.{is_listed}
 
 -- the lattice of roots, the cells of a block along x1, x2 and x3, the inner nodes, the leaves by rising key,
 -- and for each leaf and each field the list of its totals, x1 fastest

@@ -2,9 +2,9 @@
 use Rattle.std.specs.Prelude.{◌==◌, ℕ, zero, suc, ◌+◌, ◌-◌, ◌*◌, ◌^◌, Bool, cond, ◌&&◌, nat_lt, nat_le, min, List, [], ◌∷◌, map, slice_index}
 use Rattle.std.specs.List.{enumerate_from}
 use Rattle.morton_order.specs.declared.space.Loc.{Loc}
-use Rattle.morton_order.specs.Space.{axis_of}
+use Rattle.morton_order.specs.Space.{axis_of, same_loc}
 use Rattle.morton_order.specs.Neighbours.{moved}
-use Rattle.block_tree.specs.Tree.{same_loc}
+
 use Rattle.dense_model.specs.Sums.{greatest_to}
 use Rattle.dense_model.specs.Rules.{Rules, CriterionRules, Measure, peak, jump}
 use Rattle.dense_model.specs.Mesh.{Mesh, block_of, block_size, cell_at, stored}

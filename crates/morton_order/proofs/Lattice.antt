@@ -1,7 +1,7 @@
 -- Facts on one axis of a lattice.
-use Rattle.std.proofs.Common.{◌≡◌, ℕ, zero, suc, ◌+◌, ◌*◌, ◌/◌, ◌^◌, ◌<◌, ◌≤◌, Bool, true, false, cond, refl, arith, ap, subst, sym, ◌∙◌, add-one, lit<, lit≤}
+use Rattle.std.proofs.Common.{◌≡◌, ℕ, zero, suc, ◌+◌, ◌*◌, ◌/◌, ◌^◌, ◌<◌, ◌≤◌, Bool, true, false, cond, refl, arith, ap, subst, sym, ◌∙◌, add-one, lit<, lit≤, nat_lt}
 use Rattle.morton_order.specs.declared.space.Shape.{Shape}
-use Rattle.morton_order.specs.Space.{IsShape, IsRootCount, root_along, factor}
+use Rattle.morton_order.specs.Space.{IsShape, IsRootCount, blocks_along, root_along, factor}
 use Rattle.std.proofs.lemmas.Nat.{mul-le}
 use Rattle.std.proofs.Math.Nat.{pow-suc, pow-le-pow_right, mul-le-mul_left}
 
@@ -48,3 +48,11 @@ factor_power false level h = subst (λ v. v ≤ 2 ^ 10) (sym (one_pow level)) (l
 pub few_places : (used : Bool) (root level : ℕ) → level ≤ 10 → root ≤ cond used 65536 1 → root * cond used 2 1 ^ level ≤ 65536 * 2 ^ 10
 few_places true root level h few = mul-le root (2 ^ level) 65536 (2 ^ 10) few (factor_power true level h)
 few_places false root level h few = let e : 1 ^ level ≡ 1 = one_pow level in let small : root * 1 ^ level ≤ 1 * 1 = mul-le root (1 ^ level) 1 1 few (subst (λ v. v ≤ 1) (sym e) (lit≤ tt)) in omega arith
+
+-- along an axis that is not in use there is one place
+few_by : (used : Bool) (root level : ℕ) → root ≤ cond used 65536 1 → root * cond used 2 1 ^ level ≤ cond used (root * cond used 2 1 ^ level) 1
+few_by true root level h = omega arith
+few_by false root level h = let e : 1 ^ level ≡ 1 = one_pow level in subst (λ v. root * v ≤ 1) (sym e) (omega arith)
+
+pub few_along : (s : Shape) → IsShape s → (axis level : ℕ) → axis < 3 → blocks_along s axis level ≤ cond (nat_lt axis s.dims) (blocks_along s axis level) 1
+few_along s shape axis level h = few_by (nat_lt axis s.dims) (root_along s axis) level (root_count s shape axis h).1

@@ -1,3 +1,5 @@
 pub mod KeyBits
 pub mod Lattice
 pub mod Lists
+pub mod Any
+pub mod Touching

@@ -1,10 +1,10 @@
 -- What lies beside a location on its own level.
-use Rattle.std.specs.Prelude.{◌≡◌, ◌==◌, ℕ, zero, suc, ◌+◌, ◌-◌, ◌*◌, ◌/◌, ◌%◌, ◌<◌, ◌≤◌, Bool, true, false, cond, ◌&&◌, ◌||◌, nat_lt, Option, Some, None, List, IsTrue}
+use Rattle.std.specs.Prelude.{◌≡◌, ◌==◌, ℕ, zero, suc, ◌+◌, ◌-◌, ◌*◌, ◌/◌, ◌%◌, ◌<◌, ◌≤◌, Bool, true, false, cond, ◌&&◌, ◌||◌, nat_lt, Option, Some, None, List, All, Contains, IsTrue, ◌⊎◌}
 use Rattle.std.specs.List.{filter_map, range_with_len}
 use Rattle.std.specs.Option.{option_map, option_and_then}
 use Rattle.morton_order.specs.declared.space.Loc.{Loc}
 use Rattle.morton_order.specs.declared.space.Shape.{Shape}
-use Rattle.morton_order.specs.Space.{axis_of, blocks_along, wraps}
+use Rattle.morton_order.specs.Space.{IsIn, IsShape, axis_of, blocks_along, wraps}
 
 -- one step up or down along an axis of n places, round its end where it wraps
 abbrev pub step : ℕ → Bool → Bool → ℕ → Option ℕ
@@ -58,3 +58,13 @@ pub record AreNeighbours (s : Shape) (l m : Loc) : Type 0 where
   pub near1 : IsTrue (is_near (blocks_along s 0 l.level) (wraps s 0) l.l1 m.l1)
   pub near2 : IsTrue (is_near (blocks_along s 1 l.level) (wraps s 1) l.l2 m.l2)
   pub near3 : IsTrue (is_near (blocks_along s 2 l.level) (wraps s 2) l.l3 m.l3)
+
+-- what touches a location, touched by it: to touch is mutual
+abbrev pub TouchingIsMutual : Type 0
+TouchingIsMutual = (s : Shape) (l m : Loc) → AreNeighbours s l m → AreNeighbours s m l
+
+-- the neighbours of a location lie in the domain and touch it, and all that touches it is among them, but for itself
+abbrev pub NeighboursAreExact : Type 0
+NeighboursAreExact = (s : Shape) (l : Loc) → IsShape s → IsIn s l →
+    All (λ m. IsIn s m × AreNeighbours s l m) (neighbours s l)
+    × ((m : Loc) → IsIn s m → AreNeighbours s l m → (m ≡ l) ⊎ Contains (neighbours s l) m)

@@ -1,8 +1,12 @@
 -- Locations on the lattices of a mesh, for one to three axes in use.
-use Rattle.std.specs.Prelude.{◌≡◌, ℕ, zero, suc, ◌+◌, ◌-◌, ◌*◌, ◌/◌, ◌%◌, ◌^◌, ◌<◌, ◌≤◌, Bool, true, false, cond, nat_lt, slice_index}
+use Rattle.std.specs.Prelude.{◌≡◌, ℕ, zero, suc, ◌+◌, ◌-◌, ◌*◌, ◌/◌, ◌%◌, ◌^◌, ◌<◌, ◌≤◌, Bool, false, cond, ◌==◌, ◌&&◌, nat_lt, slice_index}
 use Rattle.std.specs.List.{slice_index_or}
 use Rattle.morton_order.specs.declared.space.Loc.{Loc}
 use Rattle.morton_order.specs.declared.space.Shape.{Shape}
+
+-- whether two locations are one
+abbrev pub same_loc : Loc → Loc → Bool
+same_loc l m = l.level == m.level && l.l1 == m.l1 && l.l2 == m.l2 && l.l3 == m.l3
 
 -- into how many parts refinement cuts a location along an axis: 2 where the axis is in use, else 1
 abbrev pub factor : ℕ → ℕ → ℕ

@@ -7,10 +7,12 @@
 
 mod around;
 mod key;
+mod laws;
 mod locations;
 mod space;
 
 pub use around::{Around, neighbours};
 pub use key::key_of;
+pub use laws::neighbour_laws;
 pub use locations::{across, child, parent};
 pub use space::{Loc, Shape, Side};
