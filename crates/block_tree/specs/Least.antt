@@ -1,9 +1,9 @@
 -- The least balanced tree that holds what is wanted: as a relation, and level by level.
-use Rattle.std.specs.Prelude.{◌≡◌, ℕ, zero, suc, ◌+◌, ◌-◌, ◌*◌, ◌^◌, ◌≤◌, Bool, ◌&&◌, ◌||◌, nat_lt, nat_le, List, ◌∷◌, IsTrue, slice_index}
+use Rattle.std.specs.Prelude.{◌≡◌, ℕ, zero, suc, ◌+◌, ◌-◌, ◌*◌, ◌^◌, ◌<◌, ◌≤◌, Bool, ◌&&◌, ◌||◌, nat_lt, nat_le, List, ◌∷◌, IsTrue, slice_index}
 use Rattle.std.specs.List.{list_any, list_all, range_with_len}
 use Rattle.morton_order.specs.declared.space.Loc.{Loc}
 use Rattle.morton_order.specs.declared.space.Shape.{Shape}
-use Rattle.morton_order.specs.Space.{axis_of, child, parts}
+use Rattle.morton_order.specs.Space.{IsIn, IsShape, axis_of, child, is_inside, parts}
 use Rattle.morton_order.specs.Neighbours.{neighbours}
 use Rattle.block_tree.specs.declared.boxes.StaticBox.{StaticBox}
 use Rattle.block_tree.specs.Tree.{IsTree, IsBalanced}
@@ -31,7 +31,15 @@ forced (suc k) s wanted l = wanted l || list_any (λ j. list_any (forced k s wan
 
 -- the least balanced tree that holds what is wanted, where no location finer than a level is wanted
 abbrev pub least : ℕ → Shape → (Loc → Bool) → Loc → Bool
-least finest s wanted l = nat_le l.level finest && forced (finest - l.level) s wanted l
+least finest s wanted l = is_inside s l && (nat_le l.level finest && forced (finest - l.level) s wanted l)
+
+-- what may be wanted: locations of the domain that are no finer than a level
+abbrev pub MayBeWanted : ℕ → Shape → (Loc → Bool) → Type 0
+MayBeWanted finest s wanted = (l : Loc) → IsTrue (wanted l) → IsIn s l × (l.level ≤ finest)
+
+-- what is found level by level is the least balanced tree
+abbrev pub LeastIsLeast : Type 0
+LeastIsLeast = (finest : ℕ) (s : Shape) (wanted : Loc → Bool) → IsShape s → finest < 10 → MayBeWanted finest s wanted → IsLeast s wanted (least finest s wanted)
 
 -- whether a location of blocks of n cells meets a range of root cells along an axis
 abbrev pub meets_along : ℕ → ℕ → ℕ → ℕ → ℕ → Bool

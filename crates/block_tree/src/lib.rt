@@ -3,5 +3,7 @@
 #![tactic(auto)]
 
 mod boxes;
+mod laws;
 
 pub use boxes::StaticBox;
+pub use laws::least_tree_law;

@@ -3,3 +3,4 @@ pub mod Lattice
 pub mod Lists
 pub mod Any
 pub mod Touching
+pub mod Family

@@ -119,7 +119,7 @@ whole_of l m x y z level e1 e2 e3 =
     place : ℕ → ℕ → ℕ → ℕ → Loc
     place level x y z = record { level = level; l1 = x; l2 = y; l3 = z }
 
-same_as : (l m : Loc) → m.level ≡ l.level → m.l1 ≡ l.l1 → m.l2 ≡ l.l2 → m.l3 ≡ l.l3 → m ≡ l
+pub same_as : (l m : Loc) → m.level ≡ l.level → m.l1 ≡ l.l1 → m.l2 ≡ l.l2 → m.l3 ≡ l.l3 → m ≡ l
 same_as l m level e1 e2 e3 = ap (λ v. place v m.l1 m.l2 m.l3) level ∙ ap (λ v. place l.level v m.l2 m.l3) e1 ∙ ap (λ v. place l.level l.l1 v m.l3) e2 ∙ ap (λ v. place l.level l.l1 l.l2 v) e3
   where
     place : ℕ → ℕ → ℕ → ℕ → Loc

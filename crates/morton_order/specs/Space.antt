@@ -1,5 +1,5 @@
 -- Locations on the lattices of a mesh, for one to three axes in use.
-use Rattle.std.specs.Prelude.{◌≡◌, ℕ, zero, suc, ◌+◌, ◌-◌, ◌*◌, ◌/◌, ◌%◌, ◌^◌, ◌<◌, ◌≤◌, Bool, false, cond, ◌==◌, ◌&&◌, nat_lt, slice_index}
+use Rattle.std.specs.Prelude.{◌≡◌, ℕ, zero, suc, ◌+◌, ◌-◌, ◌*◌, ◌/◌, ◌%◌, ◌^◌, ◌<◌, ◌≤◌, Bool, false, cond, ◌==◌, ◌&&◌, nat_le, nat_lt, slice_index}
 use Rattle.std.specs.List.{slice_index_or}
 use Rattle.morton_order.specs.declared.space.Loc.{Loc}
 use Rattle.morton_order.specs.declared.space.Shape.{Shape}
@@ -52,6 +52,10 @@ pub record IsIn (s : Shape) (l : Loc) : Type 0 where
   pub within1 : l.l1 < blocks_along s 0 l.level
   pub within2 : l.l2 < blocks_along s 1 l.level
   pub within3 : l.l3 < blocks_along s 2 l.level
+
+-- whether a location lies in the domain
+abbrev pub is_inside : Shape → Loc → Bool
+is_inside s l = nat_le l.level 10 && nat_lt l.l1 (blocks_along s 0 l.level) && nat_lt l.l2 (blocks_along s 1 l.level) && nat_lt l.l3 (blocks_along s 2 l.level)
 
 -- the greatest number of locations of a level along an axis, over all lattices
 abbrev pub most_along : ℕ → ℕ → ℕ → ℕ
