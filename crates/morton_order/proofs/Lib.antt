@@ -4,3 +4,4 @@ pub mod Lists
 pub mod Any
 pub mod Touching
 pub mod Family
+pub mod Crossing

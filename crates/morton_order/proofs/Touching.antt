@@ -11,10 +11,10 @@ use Rattle.morton_order.proofs.Lattice.{few_along}
 use Rattle.morton_order.proofs.Any.{any-filter_map, any_range-found, any_range-has, or_cases, passes, passes-is}
 
 -- a step leads to what is near
-step_up : (n : ℕ) (wrap : Bool) (x y : ℕ) → x < n → step n wrap true x ≡ Some y → (is_near n wrap x y ≡ true) × (y < n)
+pub step_up : (n : ℕ) (wrap : Bool) (x y : ℕ) → x < n → step n wrap true x ≡ Some y → (is_near n wrap x y ≡ true) × (y < n)
 step_up n wrap x y h e = grind (arith, nat_tests)
 
-step_down : (n : ℕ) (wrap : Bool) (x y : ℕ) → x < n → step n wrap false x ≡ Some y → (is_near n wrap x y ≡ true) × (y < n)
+pub step_down : (n : ℕ) (wrap : Bool) (x y : ℕ) → x < n → step n wrap false x ≡ Some y → (is_near n wrap x y ≡ true) × (y < n)
 step_down n wrap x y h e = grind (arith, nat_tests)
 
 -- what is near is the place itself or a step away
