@@ -59,11 +59,11 @@ pub record TouchesSide (s : Shape) (axis : ℕ) (high : Bool) (l m : Loc) : Type
 -- what is named behind a side of a leaf of a balanced tree is exactly the leaves that touch the side
 abbrev pub BehindIsExact : Type 0
 BehindIsExact = (s : Shape) (inner : Loc → Bool) → IsShape s → IsTree s inner → IsBalanced s inner →
-  (l m : Loc) (axis : ℕ) (high : Bool) → IsLeaf s inner l → axis < s.dims →
-  Names (behind s inner l axis high) m ↔ (IsLeaf s inner m × TouchesSide s axis high l m)
+    (l m : Loc) (axis : ℕ) (high : Bool) → IsLeaf s inner l → axis < s.dims →
+    Names (behind s inner l axis high) m ↔ (IsLeaf s inner m × TouchesSide s axis high l m)
 
 -- a leaf stands behind a side of another exactly where that one stands behind the opposite side of it
 abbrev pub BehindIsMutual : Type 0
 BehindIsMutual = (s : Shape) (inner : Loc → Bool) → IsShape s → IsTree s inner → IsBalanced s inner →
-  (l m : Loc) (axis : ℕ) (high : Bool) → IsLeaf s inner l → IsLeaf s inner m → axis < s.dims →
-  Names (behind s inner l axis high) m ↔ Names (behind s inner m axis (not high)) l
+    (l m : Loc) (axis : ℕ) (high : Bool) → IsLeaf s inner l → IsLeaf s inner m → axis < s.dims →
+    Names (behind s inner l axis high) m ↔ Names (behind s inner m axis (not high)) l
