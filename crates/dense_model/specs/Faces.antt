@@ -35,8 +35,8 @@ seen_across rules m f c axis high (Some o) = look m f o
 -- what passes a face of a cell to the right or to the left, on the cell's own level: the upwind portion of the cell that it leaves
 abbrev pub own_flux : Rules → Mesh → ℕ → Loc → ℕ → Bool → Option Loc → Bool → ℕ
 own_flux rules m f c axis high beyond right =
-  let donor = cond high (cond right (look m f c) (seen_across rules m f c axis high beyond)) (cond right (seen_across rules m f c axis high beyond) (look m f c)) in
-  portion donor (rate_of (field_at rules f) axis right c.level) rules.denominator
+    let donor = cond high (cond right (look m f c) (seen_across rules m f c axis high beyond)) (cond right (seen_across rules m f c axis high beyond) (look m f c)) in
+    portion donor (rate_of (field_at rules f) axis right c.level) rules.denominator
 
 -- the location across a side of a cell
 abbrev pub cell_across : Mesh → Loc → ℕ → Bool → Option Loc
@@ -56,9 +56,9 @@ flux_where false each finer own = own
 abbrev pub flux_by : Rules → Mesh → ℕ → Loc → ℕ → Bool → Bool → Option Loc → ℕ
 flux_by rules m f c axis high right None = flux_outside (kind_at rules axis high) (own_flux rules m f c axis high None right)
 flux_by rules m f c axis high right (Some o) = flux_where (is_inner m (block_of m o))
-  (λ j. own_flux rules m f (child m.shape.dims o j) axis (not high) (cell_across m (child m.shape.dims o j) axis (not high)) right)
-  (children_at m.shape.dims axis (not high))
-  (own_flux rules m f c axis high (Some o) right)
+    (λ j. own_flux rules m f (child m.shape.dims o j) axis (not high) (cell_across m (child m.shape.dims o j) axis (not high)) right)
+    (children_at m.shape.dims axis (not high))
+    (own_flux rules m f c axis high (Some o) right)
 
 -- what passes a face of a cell of a leaf along an axis, to the right or to the left
 unfoldable pub flux : Rules → Mesh → ℕ → Loc → ℕ → Bool → Bool → ℕ

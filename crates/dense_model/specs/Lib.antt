@@ -12,3 +12,6 @@ pub mod Run
 pub mod Texts
 pub mod Worked
 pub mod WorkedChanges
+pub mod OneBlock
+pub mod OneBlockDump
+pub mod OneBlockRun

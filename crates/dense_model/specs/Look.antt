@@ -11,8 +11,8 @@ use Rattle.dense_model.specs.Mesh.{Mesh, block_of, is_inner, stored}
 abbrev pub spread : ℕ → Mesh → ℕ → Loc → ℕ
 spread zero m f c = stored m f c
 spread (suc coarser) m f c = cond (is_inner m (block_of m (parent m.shape.dims c)))
-  (stored m f c)
-  (share (spread coarser m f (parent m.shape.dims c)) (parts m.shape.dims) (child_number m.shape.dims c))
+    (stored m f c)
+    (share (spread coarser m f (parent m.shape.dims c)) (parts m.shape.dims) (child_number m.shape.dims c))
 
 -- one value, or the sum over the parts
 abbrev pub sum_where : Bool → ℕ → (ℕ → ℕ) → ℕ → ℕ

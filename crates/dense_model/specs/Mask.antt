@@ -45,8 +45,8 @@ opening_mask rules m = masked m.leaves (length rules.fields) (λ _ l f. called a
 -- whether a place of a block lies in the two layers at its side
 abbrev pub is_near_side : Mesh → ℕ → Bool → Loc → Bool
 is_near_side m axis high c =
-  let along = axis_of c axis % cells_along m axis in
-  cond high (nat_le (cells_along m axis) (along + 2)) (nat_lt along 2)
+    let along = axis_of c axis % cells_along m axis in
+    cond high (nat_le (cells_along m axis) (along + 2)) (nat_lt along 2)
 
 -- what is sent of a cell across a side: its total, or that of the coarser cell that it is a part of where the sender is coarser
 abbrev pub sent : Mesh → ℕ → Loc → Loc → ℕ
@@ -61,7 +61,7 @@ is_sent rules m f l axis high (Some o) = list_any (λ place. is_near_side m axis
 -- whether a stage's exchange calls for a field on a leaf
 abbrev pub exchange_calls : Rules → Mesh → ℕ → Loc → Bool
 exchange_calls rules m f l = (field_at rules f).has_ghosts
-  && list_any (λ axis. is_sent rules m f l axis false (across m.shape l axis false) || is_sent rules m f l axis true (across m.shape l axis true)) (range_with_len 0 m.shape.dims)
+    && list_any (λ axis. is_sent rules m f l axis false (across m.shape l axis false) || is_sent rules m f l axis true (across m.shape l axis true)) (range_with_len 0 m.shape.dims)
 
 -- the mask after the exchange of a stage that begins with a mesh
 abbrev pub exchanged : Rules → Mesh → Mask → Mask
@@ -74,7 +74,7 @@ reacted rules m mask = masked m.leaves (length rules.fields) (λ leaf l f. calle
 -- a slot after the check: a field that blocks may go without is freed once it was all zero often enough in a row
 abbrev pub checked_slot : Rules → ℕ → Bool → Slot → Slot
 checked_slot rules f is_zero slot =
-  cond (slot.present && (field_at rules f).is_sparse)
+    cond (slot.present && (field_at rules f).is_sparse)
     (cond is_zero (cond (nat_le rules.dealloc_count (slot.idle + 1)) absent (record slot { idle = slot.idle + 1 })) (record slot { idle = 0 }))
     slot
 
@@ -93,7 +93,7 @@ inherits m mask f l = is_kept m mask f (parent m.shape.dims l) || list_any (λ j
 -- the mask on the leaves of the next mesh: a leaf that stays keeps its slots
 abbrev pub carried_mask : Rules → Mesh → Mask → List Loc → Mask
 carried_mask rules m mask leaves = masked leaves (length rules.fields) (λ _ l f.
-  cond (is_listed m.leaves l) (slot_at mask (leaf_number m l) f) (record { present = inherits m mask f l; idle = 0 }))
+    cond (is_listed m.leaves l) (slot_at mask (leaf_number m l) f) (record { present = inherits m mask f l; idle = 0 }))
 
 -- on how many blocks a field is kept
 abbrev pub blocks_with : Mask → ℕ → ℕ

@@ -27,12 +27,12 @@ moved_by r totals = portion (slice_index totals r.reactant) r.num r.den
 
 abbrev pub after_reaction : Reacting → ReactionRules → Reacting
 after_reaction cell r =
-  let moved = moved_by r cell.totals in
-  record {
-    totals = added (taken cell.totals r.reactant moved) r.product moved;
-    made = added cell.made r.product moved;
-    used = added cell.used r.reactant moved;
-  }
+    let moved = moved_by r cell.totals in
+    record {
+      totals = added (taken cell.totals r.reactant moved) r.product moved;
+      made = added cell.made r.product moved;
+      used = added cell.used r.reactant moved;
+    }
 
 -- the totals of a cell before its reactions
 abbrev pub before_reactions : List ℕ → Reacting

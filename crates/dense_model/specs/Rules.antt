@@ -76,5 +76,5 @@ leftwards (negsuc v) = suc v
 -- the rate of a field along an axis at a level, to the right or to the left; nothing of a field that is not transported
 abbrev pub rate_of : FieldRules → ℕ → Bool → ℕ → ℕ
 rate_of field axis right level =
-  let velocity = slice_index_or field.velocity axis (pos 0) in
-  cond field.has_fluxes (rate (cond right (rightwards velocity) (leftwards velocity)) field.diffusion level) 0
+    let velocity = slice_index_or field.velocity axis (pos 0) in
+    cond field.has_fluxes (rate (cond right (rightwards velocity) (leftwards velocity)) field.diffusion level) 0

@@ -77,8 +77,8 @@ no_flows fields = replicate fields (record { inflow = 0; outflow = 0; made = 0; 
 -- the state at the start
 abbrev pub opening_state : Rules → Opening → State
 opening_state rules opening =
-  let mesh = opening_mesh rules opening in
-  record { mesh = mesh; counters = replicate (length mesh.leaves) 0; mask = opening_mask rules mesh; flows = no_flows (length rules.fields) }
+    let mesh = opening_mesh rules opening in
+    record { mesh = mesh; counters = replicate (length mesh.leaves) 0; mask = opening_mask rules mesh; flows = no_flows (length rules.fields) }
 
 abbrev pub opened : Rules → Opening → Outcome
 opened rules opening = cond (nat_le (length (leaves_of opening.shape (opening_inner rules opening))) rules.leaf_limit) (running (opening_state rules opening)) too_many_at_start
@@ -109,23 +109,23 @@ advanced rules m = react rules (staged_mesh rules m rules.stages)
 -- the state after the stages, the reactions, the tags and the check of a cycle
 abbrev pub before_remesh : Rules → State → State
 before_remesh rules s =
-  let mesh = advanced rules s.mesh in
-  record {
-    mesh = mesh;
-    counters = counters_after rules mesh s.counters;
-    mask = checked rules mesh (reacted rules mesh (staged_mask rules s.mesh s.mask rules.stages));
-    flows = table (length rules.fields) (cycle_flow rules s.mesh);
-  }
+    let mesh = advanced rules s.mesh in
+    record {
+      mesh = mesh;
+      counters = counters_after rules mesh s.counters;
+      mask = checked rules mesh (reacted rules mesh (staged_mask rules s.mesh s.mask rules.stages));
+      flows = table (length rules.fields) (cycle_flow rules s.mesh);
+    }
 
 -- the state on the next tree
 abbrev pub remeshed : Rules → State → (Loc → Bool) → State
 remeshed rules s inner =
-  let leaves = leaves_of s.mesh.shape inner in
-  record s {
-    mesh = remap s.mesh (length rules.fields) inner;
-    counters = carried_counters s.mesh s.counters leaves;
-    mask = carried_mask rules s.mesh s.mask leaves;
-  }
+    let leaves = leaves_of s.mesh.shape inner in
+    record s {
+      mesh = remap s.mesh (length rules.fields) inner;
+      counters = carried_counters s.mesh s.counters leaves;
+      mask = carried_mask rules s.mesh s.mask leaves;
+    }
 
 -- whether the mesh may change after a cycle
 abbrev pub remeshes_at : Rules → ℕ → Bool
@@ -134,9 +134,9 @@ remeshes_at rules cycle = rules.adaptive && cycle % rules.refine_every == 0
 -- the next tree, or the stop, after a cycle whose leaves had these counters before
 abbrev pub after_remesh : Rules → ℕ → List ℕ → State → Outcome
 after_remesh rules cycle counters s =
-  let inner = next_inner rules s.mesh (tags_after rules s.mesh counters) in
-  let leaves = length (leaves_of s.mesh.shape inner) in
-  cond (nat_le leaves rules.leaf_limit) (running (remeshed rules s inner)) (too_many_at cycle leaves)
+    let inner = next_inner rules s.mesh (tags_after rules s.mesh counters) in
+    let leaves = length (leaves_of s.mesh.shape inner) in
+    cond (nat_le leaves rules.leaf_limit) (running (remeshed rules s inner)) (too_many_at cycle leaves)
 
 -- one cycle
 abbrev pub cycled : Rules → ℕ → State → Outcome

@@ -38,11 +38,11 @@ sum_cells m each = sum_over m.leaves (λ l. sum_to (block_size m) (λ place. eac
 -- what passes the faces of the domain that a cell has: inwards, and outwards
 abbrev pub cell_inflow : Rules → Mesh → ℕ → Loc → ℕ
 cell_inflow rules m f c = sum_to m.shape.dims (λ axis.
-  when_outside (cell_across m c axis false) (flux rules m f c axis false true) + when_outside (cell_across m c axis true) (flux rules m f c axis true false))
+    when_outside (cell_across m c axis false) (flux rules m f c axis false true) + when_outside (cell_across m c axis true) (flux rules m f c axis true false))
 
 abbrev pub cell_outflow : Rules → Mesh → ℕ → Loc → ℕ
 cell_outflow rules m f c = sum_to m.shape.dims (λ axis.
-  when_outside (cell_across m c axis false) (flux rules m f c axis false false) + when_outside (cell_across m c axis true) (flux rules m f c axis true true))
+    when_outside (cell_across m c axis false) (flux rules m f c axis false false) + when_outside (cell_across m c axis true) (flux rules m f c axis true true))
 
 -- a field's inflow and outflow in a stage, summed apart
 abbrev pub inflow_of : Rules → Mesh → ℕ → ℕ

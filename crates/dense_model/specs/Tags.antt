@@ -4,7 +4,6 @@ use Rattle.std.specs.List.{enumerate_from}
 use Rattle.morton_order.specs.declared.space.Loc.{Loc}
 use Rattle.morton_order.specs.Space.{axis_of, same_loc}
 use Rattle.morton_order.specs.Neighbours.{moved}
-
 use Rattle.dense_model.specs.Sums.{greatest_to}
 use Rattle.dense_model.specs.Rules.{Rules, CriterionRules, Measure, peak, jump}
 use Rattle.dense_model.specs.Mesh.{Mesh, block_of, block_size, cell_at, stored}
@@ -24,8 +23,8 @@ difference a b = (a - b) + (b - a)
 -- the difference of the weights of a cell and the next one along an axis, where that lies in the same block
 abbrev pub step_along : Mesh → ℕ → Loc → ℕ → ℕ
 step_along m f c axis =
-  let next = moved c axis (axis_of c axis + 1) in
-  cond (same_loc (block_of m next) (block_of m c)) (difference (weight m f c) (weight m f next)) 0
+    let next = moved c axis (axis_of c axis + 1) in
+    cond (same_loc (block_of m next) (block_of m c)) (difference (weight m f c) (weight m f next)) 0
 
 -- the greatest difference of the weights of two cells of a block that share a face
 abbrev pub jump_of : Mesh → ℕ → Loc → ℕ
@@ -47,7 +46,7 @@ pub data Wish : Type 0 where
 -- the wish of one criterion: to refine above its upper tolerance up to its finest level, to derefine below the lower one
 abbrev pub wish_by : CriterionRules → ℕ → ℕ → Wish
 wish_by criterion level measure =
-  cond (nat_lt criterion.refine_above measure && nat_lt level criterion.finest_level) refine (cond (nat_lt measure criterion.derefine_below) derefine stay)
+    cond (nat_lt criterion.refine_above measure && nat_lt level criterion.finest_level) refine (cond (nat_lt measure criterion.derefine_below) derefine stay)
 
 -- the stronger of two wishes: to refine, then to stay, then to derefine
 abbrev pub stronger : Wish → Wish → Wish

@@ -38,19 +38,19 @@ field_text rules m f totals = cond (is_zero totals) [] (line (codes "field " ++ 
 -- a block's lines: its place with the number of fields that are all zero, and the others' rows
 abbrev pub block_text : Rules → Mesh → ℕ → Loc → List ℕ
 block_text rules m leaf l =
-  let totals = table (length rules.fields) (totals_on m leaf) in
-  line (named (codes "block ") leaf ++ named (codes " level ") l.level ++ three (codes " at ") l.l1 l.l2 l.l3 ++ named (codes " zero ") (count_by is_zero totals))
-  ++ flat_map (λ (p : ℕ × List ℕ). field_text rules m p.0 p.1) (enumerate_from 0 totals)
+    let totals = table (length rules.fields) (totals_on m leaf) in
+    line (named (codes "block ") leaf ++ named (codes " level ") l.level ++ three (codes " at ") l.l1 l.l2 l.l3 ++ named (codes " zero ") (count_by is_zero totals))
+    ++ flat_map (λ (p : ℕ × List ℕ). field_text rules m p.0 p.1) (enumerate_from 0 totals)
 
 -- the lines before the blocks'
 abbrev pub heading_text : Rules → Mesh → ℕ → List ℕ
 heading_text rules m cycle =
-  line (codes "parthenon-whole dump 1")
-  ++ line (named (codes "cycle ") cycle)
-  ++ line (named (codes "dims ") m.shape.dims ++ three (codes " cells ") (cells_along m 0) (cells_along m 1) (cells_along m 2) ++ three (codes " root ") (root_along m.shape 0) (root_along m.shape 1) (root_along m.shape 2))
-  ++ line (named (codes "fields ") (length rules.fields))
-  ++ flat_map (λ (field : FieldRules). line field.label) rules.fields
-  ++ line (named (codes "blocks ") (length m.leaves))
+    line (codes "parthenon-whole dump 1")
+    ++ line (named (codes "cycle ") cycle)
+    ++ line (named (codes "dims ") m.shape.dims ++ three (codes " cells ") (cells_along m 0) (cells_along m 1) (cells_along m 2) ++ three (codes " root ") (root_along m.shape 0) (root_along m.shape 1) (root_along m.shape 2))
+    ++ line (named (codes "fields ") (length rules.fields))
+    ++ flat_map (λ (field : FieldRules). line field.label) rules.fields
+    ++ line (named (codes "blocks ") (length m.leaves))
 
 -- the text of a dump
 unfoldable pub dump_text : Rules → Mesh → ℕ → List ℕ
@@ -63,8 +63,8 @@ total_of m f = sum_over (range_with_len 0 (length m.leaves)) (λ leaf. sum_over 
 -- a field's line in the history: its total after a cycle, the flows of the cycle, and on how many blocks it is kept
 abbrev pub history_line : ℕ → List ℕ → ℕ → Flow → ℕ → List ℕ
 history_line cycle label total flow blocks = line (named (codes "cycle ") cycle ++ codes " field " ++ label
-  ++ named (codes " total ") total ++ named (codes " in ") flow.inflow ++ named (codes " out ") flow.outflow
-  ++ named (codes " made ") flow.made ++ named (codes " used ") flow.used ++ named (codes " blocks ") blocks)
+    ++ named (codes " total ") total ++ named (codes " in ") flow.inflow ++ named (codes " out ") flow.outflow
+    ++ named (codes " made ") flow.made ++ named (codes " used ") flow.used ++ named (codes " blocks ") blocks)
 
 -- the lines of a cycle in the history
 abbrev pub history_lines : Rules → ℕ → Mesh → Mask → List Flow → List ℕ

@@ -24,8 +24,18 @@ transported label sparse v1 v2 v3 = record { label = label; has_ghosts = true; h
 -- rules of one stage a cycle on a tree that does not change
 abbrev pub plain_rules : ℕ → List FaceKind → List FieldRules → Rules
 plain_rules denominator faces fields = record {
-  denominator = denominator; stages = 1; faces = faces; fields = fields; reactions = []; criteria = [];
-  adaptive = false; refine_every = 1; derefine_count = 10; dealloc_count = 5; levels = 1; leaf_limit = 65536;
+  denominator = denominator;
+  stages = 1;
+  faces = faces;
+  fields = fields;
+  reactions = [];
+  criteria = [];
+  adaptive = false;
+  refine_every = 1;
+  derefine_count = 10;
+  dealloc_count = 5;
+  levels = 1;
+  leaf_limit = 65536;
 }
 
 -- all faces reflect
@@ -37,7 +47,8 @@ abbrev pub opening_on : ℕ → ℕ → ℕ → ℕ → Bool → List StaticBox 
 opening_on dims r1 r2 r3 wrap statics starts = record {
   shape = record { dims = dims; root = r1 ∷ r2 ∷ r3 ∷ []; wrap = wrap ∷ wrap ∷ wrap ∷ [] };
   cells = 4 ∷ cells_on dims 2 ∷ cells_on dims 3 ∷ [];
-  static_boxes = statics; start_boxes = starts;
+  static_boxes = statics;
+  start_boxes = starts;
 } where
   cells_on : ℕ → ℕ → ℕ
   cells_on dims axes = cond (nat_le axes dims) 4 1
@@ -88,9 +99,9 @@ reflecting_opening = opening_on 1 1 1 1 false [] (cell_box 0 0 0 0 8 ∷ [])
 
 abbrev pub ReflectingRow : Type 0
 ReflectingRow =
-  (totals_in (run reflecting_rules reflecting_opening 0) ≡ ((8 ∷ 0 ∷ 0 ∷ 0 ∷ []) ∷ []) ∷ [])
-  × (totals_in (run reflecting_rules reflecting_opening 1) ≡ ((6 ∷ 2 ∷ 0 ∷ 0 ∷ []) ∷ []) ∷ [])
-  × (totals_in (run reflecting_rules reflecting_opening 2) ≡ ((5 ∷ 3 ∷ 0 ∷ 0 ∷ []) ∷ []) ∷ [])
+    (totals_in (run reflecting_rules reflecting_opening 0) ≡ ((8 ∷ 0 ∷ 0 ∷ 0 ∷ []) ∷ []) ∷ [])
+    × (totals_in (run reflecting_rules reflecting_opening 1) ≡ ((6 ∷ 2 ∷ 0 ∷ 0 ∷ []) ∷ []) ∷ [])
+    × (totals_in (run reflecting_rules reflecting_opening 2) ≡ ((5 ∷ 3 ∷ 0 ∷ 0 ∷ []) ∷ []) ∷ [])
 
 -- round a periodic axis what leaves at the high end comes in at the low one
 abbrev pub PeriodicRow : Type 0
@@ -105,11 +116,11 @@ graded_opening = opening_on 1 2 1 1 false (record { level = 1; lo = 4 ∷ 0 ∷ 
 
 abbrev pub GradedRow : Type 0
 GradedRow = let mesh = opening_mesh graded_rules graded_opening in
-  (mesh.leaves ≡ at 0 0 0 0 ∷ at 1 2 0 0 ∷ at 1 3 0 0 ∷ [])
-  × (map (look mesh 0) (at 1 6 0 0 ∷ at 1 7 0 0 ∷ []) ≡ 3 ∷ 2 ∷ [])
-  × (flux graded_rules mesh 0 (at 0 3 0 0) 0 true true ≡ 0)
-  × (totals_in (run graded_rules graded_opening 1) ≡ ((0 ∷ 0 ∷ 0 ∷ 5 ∷ []) ∷ []) ∷ ((0 ∷ 0 ∷ 0 ∷ 0 ∷ []) ∷ []) ∷ ((0 ∷ 0 ∷ 0 ∷ 0 ∷ []) ∷ []) ∷ [])
-  × (blocks_over graded_rules graded_opening 0 1 ≡ 1 ∷ 2 ∷ [])
+    (mesh.leaves ≡ at 0 0 0 0 ∷ at 1 2 0 0 ∷ at 1 3 0 0 ∷ [])
+    × (map (look mesh 0) (at 1 6 0 0 ∷ at 1 7 0 0 ∷ []) ≡ 3 ∷ 2 ∷ [])
+    × (flux graded_rules mesh 0 (at 0 3 0 0) 0 true true ≡ 0)
+    × (totals_in (run graded_rules graded_opening 1) ≡ ((0 ∷ 0 ∷ 0 ∷ 5 ∷ []) ∷ []) ∷ ((0 ∷ 0 ∷ 0 ∷ 0 ∷ []) ∷ []) ∷ ((0 ∷ 0 ∷ 0 ∷ 0 ∷ []) ∷ []) ∷ [])
+    × (blocks_over graded_rules graded_opening 0 1 ≡ 1 ∷ 2 ∷ [])
 
 -- 8 enters at the low face, the high face lets out
 abbrev pub open_rules : Rules
@@ -117,13 +128,13 @@ open_rules = plain_rules 4 (inflow ∷ outflow ∷ replicate 4 periodic) (record
 
 abbrev pub OpenRow : Type 0
 OpenRow = let empty = opening_on 1 1 1 1 false [] [] in let full = opening_on 1 1 1 1 false [] (cell_box 0 3 0 0 8 ∷ []) in
-  (blocks_over open_rules empty 0 1 ≡ 0 ∷ 1 ∷ [])
-  × (totals_in (run open_rules empty 1) ≡ ((2 ∷ 0 ∷ 0 ∷ 0 ∷ []) ∷ []) ∷ [])
-  × (flow_in 0 (run open_rules empty 1) ≡ record { inflow = 2; outflow = 0; made = 0; used = 0 })
-  × (totals_in (run open_rules full 1) ≡ ((2 ∷ 0 ∷ 0 ∷ 6 ∷ []) ∷ []) ∷ [])
-  × (flow_in 0 (run open_rules full 1) ≡ record { inflow = 2; outflow = 2; made = 0; used = 0 })
-  × (totals_in (run open_rules full 2) ≡ ((4 ∷ 0 ∷ 0 ∷ 5 ∷ []) ∷ []) ∷ [])
-  × (flow_in 0 (run open_rules full 2) ≡ record { inflow = 2; outflow = 1; made = 0; used = 0 })
+    (blocks_over open_rules empty 0 1 ≡ 0 ∷ 1 ∷ [])
+    × (totals_in (run open_rules empty 1) ≡ ((2 ∷ 0 ∷ 0 ∷ 0 ∷ []) ∷ []) ∷ [])
+    × (flow_in 0 (run open_rules empty 1) ≡ record { inflow = 2; outflow = 0; made = 0; used = 0 })
+    × (totals_in (run open_rules full 1) ≡ ((2 ∷ 0 ∷ 0 ∷ 6 ∷ []) ∷ []) ∷ [])
+    × (flow_in 0 (run open_rules full 1) ≡ record { inflow = 2; outflow = 2; made = 0; used = 0 })
+    × (totals_in (run open_rules full 2) ≡ ((4 ∷ 0 ∷ 0 ∷ 5 ∷ []) ∷ []) ∷ [])
+    × (flow_in 0 (run open_rules full 2) ≡ record { inflow = 2; outflow = 1; made = 0; used = 0 })
 
 -- a corner cell of 6 with finer blocks on its right and above it: its shares are 2 2 1 1; one part goes right, none up
 abbrev pub corner_rules : Rules
@@ -134,15 +145,16 @@ corner_opening = opening_on 2 2 2 1 false (refined_box 1 4 7 0 7 ∷ refined_box
 
 abbrev pub CornerStage : Type 0
 CornerStage = let mesh = opening_mesh corner_rules corner_opening in
-  (length mesh.leaves ≡ 13)
-  × (map (look mesh 0) (at 1 6 6 0 ∷ at 1 7 6 0 ∷ at 1 6 7 0 ∷ at 1 7 7 0 ∷ []) ≡ 2 ∷ 2 ∷ 1 ∷ 1 ∷ [])
-  × (flux corner_rules mesh 0 (at 0 3 3 0) 0 true true ≡ 1)
-  × (flux corner_rules mesh 0 (at 0 3 3 0) 1 true true ≡ 0)
-  × (totals_in (run corner_rules corner_opening 1) ≡
+    (length mesh.leaves ≡ 13)
+    × (map (look mesh 0) (at 1 6 6 0 ∷ at 1 7 6 0 ∷ at 1 6 7 0 ∷ at 1 7 7 0 ∷ []) ≡ 2 ∷ 2 ∷ 1 ∷ 1 ∷ [])
+    × (flux corner_rules mesh 0 (at 0 3 3 0) 0 true true ≡ 1)
+    × (flux corner_rules mesh 0 (at 0 3 3 0) 1 true true ≡ 0)
+    × (totals_in (run corner_rules corner_opening 1) ≡
     (block_with 15 5 ∷ []) ∷ zeros ∷ zeros ∷ (block_with 8 1 ∷ []) ∷ replicate 9 zeros)
-  × (blocks_over corner_rules corner_opening 0 1 ≡ 1 ∷ 3 ∷ [])
+    × (blocks_over corner_rules corner_opening 0 1 ≡ 1 ∷ 3 ∷ [])
   where
     block_with : ℕ → ℕ → List ℕ
     block_with place total = replicate place 0 ++ total ∷ replicate (15 - place) 0
+
     zeros : List (List ℕ)
     zeros = replicate 16 0 ∷ []

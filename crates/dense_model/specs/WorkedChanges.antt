@@ -27,40 +27,43 @@ still label = record (transported label true (pos 0) (pos 0) (pos 0)) { has_ghos
 
 abbrev pub reacting_rules : Rules
 reacting_rules = record (plain_rules 1000 (replicate 6 periodic) (still (codes "a_0") ∷ still (codes "b_0") ∷ [])) {
-  reactions = record { reactant = 0; product = 1; num = 1; den = 10 } ∷ [] }
+  reactions = record { reactant = 0; product = 1; num = 1; den = 10 } ∷ [];
+}
 
 abbrev pub opening_with : ℕ → Opening
 opening_with amount = opening_on 1 1 1 1 true [] (cell_box 0 0 0 0 amount ∷ [])
 
 abbrev pub Reacts : Type 0
 Reacts =
-  (totals_in (run reacting_rules (opening_with 9) 1) ≡ ((9 ∷ 0 ∷ 0 ∷ 0 ∷ []) ∷ (0 ∷ 0 ∷ 0 ∷ 0 ∷ []) ∷ []) ∷ [])
-  × (blocks_in 1 (run reacting_rules (opening_with 9) 1) ≡ 0)
-  × (totals_in (run reacting_rules (opening_with 10) 1) ≡ ((9 ∷ 0 ∷ 0 ∷ 0 ∷ []) ∷ (1 ∷ 0 ∷ 0 ∷ 0 ∷ []) ∷ []) ∷ [])
-  × (flow_in 0 (run reacting_rules (opening_with 10) 1) ≡ record { inflow = 0; outflow = 0; made = 0; used = 1 })
-  × (flow_in 1 (run reacting_rules (opening_with 10) 1) ≡ record { inflow = 0; outflow = 0; made = 1; used = 0 })
-  × (blocks_in 1 (run reacting_rules (opening_with 10) 1) ≡ 1)
+    (totals_in (run reacting_rules (opening_with 9) 1) ≡ ((9 ∷ 0 ∷ 0 ∷ 0 ∷ []) ∷ (0 ∷ 0 ∷ 0 ∷ 0 ∷ []) ∷ []) ∷ [])
+    × (blocks_in 1 (run reacting_rules (opening_with 9) 1) ≡ 0)
+    × (totals_in (run reacting_rules (opening_with 10) 1) ≡ ((9 ∷ 0 ∷ 0 ∷ 0 ∷ []) ∷ (1 ∷ 0 ∷ 0 ∷ 0 ∷ []) ∷ []) ∷ [])
+    × (flow_in 0 (run reacting_rules (opening_with 10) 1) ≡ record { inflow = 0; outflow = 0; made = 0; used = 1 })
+    × (flow_in 1 (run reacting_rules (opening_with 10) 1) ≡ record { inflow = 0; outflow = 0; made = 1; used = 0 })
+    × (blocks_in 1 (run reacting_rules (opening_with 10) 1) ≡ 1)
 
 -- a second reaction turns all of b_0 back: both fields have made and used, and b_0 is kept nowhere
 abbrev pub ReactsBack : Type 0
 ReactsBack =
-  let rules = record reacting_rules { reactions = reacting_rules.reactions ++ record { reactant = 1; product = 0; num = 1; den = 1 } ∷ [] } in
-  (totals_in (run rules (opening_with 10) 1) ≡ ((10 ∷ 0 ∷ 0 ∷ 0 ∷ []) ∷ (0 ∷ 0 ∷ 0 ∷ 0 ∷ []) ∷ []) ∷ [])
-  × (flow_in 0 (run rules (opening_with 10) 1) ≡ record { inflow = 0; outflow = 0; made = 1; used = 1 })
-  × (flow_in 1 (run rules (opening_with 10) 1) ≡ record { inflow = 0; outflow = 0; made = 1; used = 1 })
-  × (blocks_in 1 (run rules (opening_with 10) 1) ≡ 0)
+    let rules = record reacting_rules { reactions = reacting_rules.reactions ++ record { reactant = 1; product = 0; num = 1; den = 1 } ∷ [] } in
+    (totals_in (run rules (opening_with 10) 1) ≡ ((10 ∷ 0 ∷ 0 ∷ 0 ∷ []) ∷ (0 ∷ 0 ∷ 0 ∷ 0 ∷ []) ∷ []) ∷ [])
+    × (flow_in 0 (run rules (opening_with 10) 1) ≡ record { inflow = 0; outflow = 0; made = 1; used = 1 })
+    × (flow_in 1 (run rules (opening_with 10) 1) ≡ record { inflow = 0; outflow = 0; made = 1; used = 1 })
+    × (blocks_in 1 (run rules (opening_with 10) 1) ≡ 0)
 
 -- 10 in the first cell of one block that refines above 9 and wants to derefine below 5
 abbrev pub peak_rules : Rules
 peak_rules = record (plain_rules 1000 closed_faces (transported (codes "a_0") true (pos 0) (pos 0) (pos 0) ∷ [])) {
-  adaptive = true; levels = 2;
-  criteria = record { field = 0; measured_by = peak; refine_above = 9; derefine_below = 5; finest_level = 1 } ∷ [] }
+  adaptive = true;
+  levels = 2;
+  criteria = record { field = 0; measured_by = peak; refine_above = 9; derefine_below = 5; finest_level = 1 } ∷ [];
+}
 
 abbrev pub AdaptiveRow : Type 0
 AdaptiveRow = let opening = opening_on 1 1 1 1 false [] (cell_box 0 0 0 0 10 ∷ []) in
-  (leaves_in (run peak_rules opening 1) ≡ at 1 0 0 0 ∷ at 1 1 0 0 ∷ [])
-  × (totals_in (run peak_rules opening 1) ≡ ((5 ∷ 5 ∷ 0 ∷ 0 ∷ []) ∷ []) ∷ ((0 ∷ 0 ∷ 0 ∷ 0 ∷ []) ∷ []) ∷ [])
-  × (blocks_over peak_rules opening 0 6 ≡ 1 ∷ 2 ∷ 2 ∷ 2 ∷ 2 ∷ 2 ∷ 1 ∷ [])
+    (leaves_in (run peak_rules opening 1) ≡ at 1 0 0 0 ∷ at 1 1 0 0 ∷ [])
+    × (totals_in (run peak_rules opening 1) ≡ ((5 ∷ 5 ∷ 0 ∷ 0 ∷ []) ∷ []) ∷ ((0 ∷ 0 ∷ 0 ∷ 0 ∷ []) ∷ []) ∷ [])
+    × (blocks_over peak_rules opening 0 6 ≡ 1 ∷ 2 ∷ 2 ∷ 2 ∷ 2 ∷ 2 ∷ 1 ∷ [])
 
 -- two by two roots with a box of level 2 on root cell (3, 3): also the root that the box does not meet is inner, 19 leaves
 abbrev pub nested_opening : Opening
@@ -87,17 +90,17 @@ leaves_after levels m tags = length (leaves_of m.shape (next_inner (record refle
 -- where the children of an inner node are beside finer leaves, they cannot merge
 abbrev pub Merges : Type 0
 Merges = let quarters = tree_mesh (opening_on 2 1 1 1 false [] []) (at 0 0 0 0 ∷ []) in
-  (leaves_after 2 quarters (merge ∷ merge ∷ merge ∷ keep ∷ []) ≡ 4)
-  × (leaves_after 2 quarters (replicate 4 merge) ≡ 1)
-  × (leaves_after 3 (tree_mesh nested_opening nested_inner) (replicate 15 keep ++ replicate 4 merge) ≡ 19)
+    (leaves_after 2 quarters (merge ∷ merge ∷ merge ∷ keep ∷ []) ≡ 4)
+    × (leaves_after 2 quarters (replicate 4 merge) ≡ 1)
+    × (leaves_after 3 (tree_mesh nested_opening nested_inner) (replicate 15 keep ++ replicate 4 merge) ≡ 19)
 
 -- two roots along x1 in three dimensions, the low one inner: behind the low side of the last leaf stand four finer ones
 abbrev pub FourBehind : Type 0
 FourBehind = let shape = (opening_on 3 2 1 1 false [] []).shape in let inner = is_listed (at 0 0 0 0 ∷ []) in
-  (length (leaves_of shape inner) ≡ 9)
-  × (behind shape inner (at 0 1 0 0) 0 false ≡ fine (at 1 1 0 0 ∷ at 1 1 1 0 ∷ at 1 1 0 1 ∷ at 1 1 1 1 ∷ []))
+    (length (leaves_of shape inner) ≡ 9)
+    × (behind shape inner (at 0 1 0 0) 0 false ≡ fine (at 1 1 0 0 ∷ at 1 1 1 0 ∷ at 1 1 0 1 ∷ at 1 1 1 1 ∷ []))
 
 -- one block of 4 by 4 by 4 cells, 8 in the first, of which one part in four moves along x3
 abbrev pub AlongThirdAxis : Type 0
 AlongThirdAxis = totals_in (run (plain_rules 4 closed_faces (transported (codes "a") false (pos 0) (pos 0) (pos 1) ∷ [])) (opening_on 3 1 1 1 false [] (cell_box 0 0 0 0 8 ∷ [])) 1)
-  ≡ ((6 ∷ replicate 15 0 ++ 2 ∷ replicate 47 0) ∷ []) ∷ []
+    ≡ ((6 ∷ replicate 15 0 ++ 2 ∷ replicate 47 0) ∷ []) ∷ []

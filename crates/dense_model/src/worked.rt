@@ -1,9 +1,11 @@
-//! Laws.
-ghost use Rattle.dense_model.specs.Worked.{CornerStage, EightShares, GradedRow, OpenRow, PeriodicRow, ReflectingRow};
-ghost use Rattle.dense_model.specs.WorkedChanges.{AdaptiveRow, AlongThirdAxis, FourBehind, Merges, NestedTree, Reacts, ReactsBack, SentAndFreed};
+//! Worked examples of the rules, with their numbers written out: each clause is proved by computing the definitions.
 
-/// x
-pub fn worked_rows()
+ghost use Rattle.dense_model.specs.Worked.{CornerStage, EightShares, GradedRow, OpenRow, PeriodicRow, ReflectingRow};
+ghost use Rattle.dense_model.specs.WorkedChanges.{AdaptiveRow, AlongThirdAxis, FourBehind, Merges};
+ghost use Rattle.dense_model.specs.WorkedChanges.{NestedTree, Reacts, ReactsBack, SentAndFreed};
+
+/// Shares, and stages on trees that do not change: closed, periodic and open faces, a graded tree, and a corner of one.
+pub fn worked_stages()
     ensures shares { EightShares }
     ensures reflecting { ReflectingRow }
     ensures periodic { PeriodicRow }
@@ -12,7 +14,7 @@ pub fn worked_rows()
     ensures corner { CornerStage }
 {}
 
-/// y
+/// What is kept where, reactions, trees that change, and three axes in use.
 pub fn worked_changes()
     ensures sent { SentAndFreed }
     ensures reacts { Reacts }

@@ -4,7 +4,7 @@ use Rattle.dense_model.specs.Faces.{flux}
 use Rattle.dense_model.specs.Look.{look}
 use Rattle.block_tree.specs.Leaves.{roots, leaves_of, inner_of}
 use Rattle.block_tree.specs.Least.{forced}
-use Rattle.dense_model.proofs.laws.worked_changes.Goals as goal
+use Rattle.dense_model.proofs.worked.worked_changes.Goals as goal
 
 pub returns-clause-sent : goal.returns-clause-sent
 unfolding run flux look roots leaves_of inner_of forced

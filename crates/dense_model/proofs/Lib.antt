@@ -1,0 +1,6 @@
+mod Advance
+mod Conserved
+mod Faces
+mod Opening
+mod RunLemmas
+mod Texts
