@@ -11,44 +11,40 @@ use Rattle.morton_order.proofs.Any.{or_cases, or_left, or_right}
 use Rattle.morton_order.proofs.Family.{child-parent, child_inside, child_number_below, parent-child, parent_inside}
 use Rattle.morton_order.proofs.Touching.{Touches, touching_back}
 use Rattle.morton_order.proofs.Crossing.{across-back, across-half, across-parent, across-sibling, across-touches, crossed_level}
-use Rattle.block_tree.specs.Tree.{IsBalanced, IsLeaf, IsTree, is_node}
+use Rattle.block_tree.specs.Tree.{IsBalanced, IsLeaf, IsTree, ancestor, is_node}
 use Rattle.block_tree.specs.Behind.{Behind, BehindIsExact, BehindIsMutual, IsAtEdge, Names, TouchesSide, behind, behind_at, children_at, coarse, fine, is_high_half, outside, same}
 
--- the location that many levels above
-abbrev ancestor : ℕ → ℕ → Loc → Loc
-ancestor dims zero c = c
-ancestor dims (suc k) c = ancestor dims k (parent dims c)
-
-ancestor_level : (dims k : ℕ) (c : Loc) → k ≤ c.level → (ancestor dims k c).level + k ≡ c.level
+-- the level of an ancestor
+pub ancestor_level : (dims k : ℕ) (c : Loc) → k ≤ c.level → (ancestor dims k c).level + k ≡ c.level
 ancestor_level dims zero c h = omega arith
 ancestor_level dims (suc k) c h = let e = ancestor_level dims k (parent dims c) (omega arith) in omega arith
 
 -- one level more at the top
-ancestor_more : (dims k : ℕ) (c : Loc) → ancestor dims (suc k) c ≡ parent dims (ancestor dims k c)
+pub ancestor_more : (dims k : ℕ) (c : Loc) → ancestor dims (suc k) c ≡ parent dims (ancestor dims k c)
 ancestor_more dims zero c = refl
 ancestor_more dims (suc k) c = ancestor_more dims k (parent dims c)
 
-ancestor_add : (dims j k : ℕ) (c : Loc) → ancestor dims (j + k) c ≡ ancestor dims k (ancestor dims j c)
+pub ancestor_add : (dims j k : ℕ) (c : Loc) → ancestor dims (j + k) c ≡ ancestor dims k (ancestor dims j c)
 ancestor_add dims zero k c = let e : 0 + k ≡ k = omega arith in ap (λ v. ancestor dims v c) e
 ancestor_add dims (suc j) k c = let e : suc j + k ≡ suc (j + k) = omega arith in ap (λ v. ancestor dims v c) e ∙ ancestor_add dims j k (parent dims c)
 
-ancestor_inside : (s : Shape) (k : ℕ) (c : Loc) → IsIn s c → k ≤ c.level → IsIn s (ancestor s.dims k c)
+pub ancestor_inside : (s : Shape) (k : ℕ) (c : Loc) → IsIn s c → k ≤ c.level → IsIn s (ancestor s.dims k c)
 ancestor_inside s zero c inside h = inside
 ancestor_inside s (suc k) c inside h = ancestor_inside s k (parent s.dims c) (parent_inside s c inside (omega arith)) (omega arith)
 
 -- the ancestors of an inner node are inner
-ancestor_inner : (s : Shape) (inner : Loc → Bool) → IsTree s inner → (k : ℕ) (c : Loc) → inner c ≡ true → k ≤ c.level → inner (ancestor s.dims k c) ≡ true
+pub ancestor_inner : (s : Shape) (inner : Loc → Bool) → IsTree s inner → (k : ℕ) (c : Loc) → inner c ≡ true → k ≤ c.level → inner (ancestor s.dims k c) ≡ true
 ancestor_inner s inner tree zero c h few = h
 ancestor_inner s inner tree (suc k) c h few = ancestor_inner s inner tree k (parent s.dims c) (tree.closed c h (omega arith)) (omega arith)
 
 -- the parent of a node that is no root is inner
-node_parent : (s : Shape) (inner : Loc → Bool) (l : Loc) → 1 ≤ l.level → is_node s inner l ≡ true → inner (parent s.dims l) ≡ true
+pub node_parent : (s : Shape) (inner : Loc → Bool) (l : Loc) → 1 ≤ l.level → is_node s inner l ≡ true → inner (parent s.dims l) ≡ true
 node_parent s inner l h node = subst (λ (b : Bool). (b || inner (parent s.dims l)) ≡ true) (ne_eqb l.level 0 (λ e. omega arith)) node
 
-parent_node : (s : Shape) (inner : Loc → Bool) (l : Loc) → inner (parent s.dims l) ≡ true → is_node s inner l ≡ true
+pub parent_node : (s : Shape) (inner : Loc → Bool) (l : Loc) → inner (parent s.dims l) ≡ true → is_node s inner l ≡ true
 parent_node s inner l h = or_right (nat_eq l.level 0) (inner (parent s.dims l)) h
 
-root_node : (s : Shape) (inner : Loc → Bool) (l : Loc) → l.level ≡ 0 → is_node s inner l ≡ true
+pub root_node : (s : Shape) (inner : Loc → Bool) (l : Loc) → l.level ≡ 0 → is_node s inner l ≡ true
 root_node s inner l h = or_left (nat_eq l.level 0) (inner (parent s.dims l)) (eq-eqb l.level 0 h)
 
 -- a location that is no node has a parent that is not inner, and is no root
@@ -140,11 +136,11 @@ back_node s inner shape tree balanced c d axis high used inside h meet =
     let most = shape.most in
     let t = across-touches s c d axis high inside (omega arith) meet in balanced d c h inside (touching_back s c d t.touching)
 
-true_false : {P : Type 0} → (b : Bool) → b ≡ true → b ≡ false → P
+pub true_false : {P : Type 0} → (b : Bool) → b ≡ true → b ≡ false → P
 true_false b h k = absurd (false≢true (sym k ∙ h))
 
 -- a test that does not hold is false
-fails : (b : Bool) → (b ≡ true → ⊥) → b ≡ false
+pub fails : (b : Bool) → (b ≡ true → ⊥) → b ≡ false
 fails true h = absurd (h refl)
 fails false h = refl
 
@@ -360,7 +356,7 @@ levels_of s inner axis high l m set t =
     }
 
 -- a strict ancestor of a node is inner
-strict_inner : (s : Shape) (inner : Loc → Bool) → IsTree s inner → (k : ℕ) (m : Loc) → is_node s inner m ≡ true → suc k ≤ m.level → inner (ancestor s.dims (suc k) m) ≡ true
+pub strict_inner : (s : Shape) (inner : Loc → Bool) → IsTree s inner → (k : ℕ) (m : Loc) → is_node s inner m ≡ true → suc k ≤ m.level → inner (ancestor s.dims (suc k) m) ≡ true
 strict_inner s inner tree k m node few = ancestor_inner s inner tree k (parent s.dims m) (node_parent s inner m (omega arith) node) (omega arith)
 
 -- what is named, from the location across
@@ -458,7 +454,7 @@ found_coarser s inner l m axis high set leaf t e more =
     names_from s inner l o m axis high false false crosses io none_node (coarser_is s inner l m o axis high set leaf crosses none_node e (omega arith) top)
 
 -- what is further is as much more
-further : (a b : ℕ) → a < b → (e : ℕ) × (b ≡ a + suc e)
+pub further : (a b : ℕ) → a < b → (e : ℕ) × (b ≡ a + suc e)
 further a b h = (b - a - 1, omega arith)
 
 found_any : (s : Shape) (inner : Loc → Bool) (l m : Loc) (axis : ℕ) (high : Bool) → Setting s inner l axis → IsLeaf s inner m → TouchesSide s axis high l m → Names (behind s inner l axis high) m

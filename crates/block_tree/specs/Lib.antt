@@ -1,3 +1,4 @@
+pub mod Change
 pub mod Behind
 pub mod Leaves
 pub mod Least

@@ -1,5 +1,5 @@
 -- A tree of blocks is a set of inner nodes, given as a test of locations.
-use Rattle.std.specs.Prelude.{◌≡◌, ◌==◌, ℕ, ◌<◌, ◌≤◌, Bool, ◌&&◌, ◌||◌, List, IsTrue}
+use Rattle.std.specs.Prelude.{◌≡◌, ◌==◌, ℕ, zero, suc, ◌<◌, ◌≤◌, Bool, ◌&&◌, ◌||◌, List, IsTrue}
 use Rattle.std.specs.List.{list_any}
 use Rattle.morton_order.specs.declared.space.Loc.{Loc}
 use Rattle.morton_order.specs.declared.space.Shape.{Shape}
@@ -25,6 +25,17 @@ pub record IsLeaf (s : Shape) (inner : Loc → Bool) (l : Loc) : Type 0 where
   pub inside : IsIn s l
   pub node : IsTrue (is_node s inner l)
   pub outer : ¬ (IsTrue (inner l))
+
+-- the location that many levels above
+abbrev pub ancestor : ℕ → ℕ → Loc → Loc
+ancestor dims zero l = l
+ancestor dims (suc levels) l = ancestor dims levels (parent dims l)
+
+-- a location lies in another, or is it
+pub record LiesIn (dims : ℕ) (l m : Loc) : Type 0 where
+  pub levels : ℕ
+  pub enough : levels ≤ l.level
+  pub is : ancestor dims levels l ≡ m
 
 -- balanced two to one: all that an inner node touches on its own level, over faces, edges and corners, are nodes
 abbrev pub IsBalanced : Shape → (Loc → Bool) → Type 0

@@ -1,6 +1,7 @@
 //! Laws of trees.
 
 ghost use Rattle.block_tree.specs.Behind.{BehindIsExact, BehindIsMutual};
+ghost use Rattle.block_tree.specs.Change.{ChangesByOneLevel};
 ghost use Rattle.block_tree.specs.Least.{LeastIsLeast};
 
 /// The nodes that are found level by level are the least balanced tree that holds what is wanted.
@@ -12,4 +13,9 @@ pub fn least_tree_law()
 pub fn behind_laws()
     ensures exact { BehindIsExact }
     ensures mutual { BehindIsMutual }
+{}
+
+/// Each leaf of the least tree that follows a balanced one differs by at most one level from each old leaf that it meets.
+pub fn change_law()
+    ensures { ChangesByOneLevel }
 {}

@@ -8,6 +8,7 @@ use Rattle.morton_order.specs.declared.space.Loc.{Loc}
 use Rattle.morton_order.specs.declared.space.Shape.{Shape}
 use Rattle.morton_order.specs.Space.{IsIn, IsShape, axis_of, blocks_along, child, child_number, factor, parent, root_along, wraps}
 use Rattle.morton_order.specs.Neighbours.{AreNeighbours, across, beside, is_near, moved, step}
+use Rattle.morton_order.proofs.Lattice.{one_pow}
 use Rattle.morton_order.proofs.Touching.{Touches, near_self, same_as, step_down, step_up}
 
 -- a step out of a pair of halves is a step of the pairs
@@ -80,11 +81,11 @@ parent_moved dims c (suc (suc a)) y h k = ap (λ v. moved (parent dims c) 2 (y /
 
 blocks_double : (s : Shape) (axis level : ℕ) → axis < s.dims → 1 ≤ level → blocks_along s axis level ≡ blocks_along s axis (level - 1) * 2
 blocks_double s axis level h k =
-  let e : level ≡ suc (level - 1) = omega arith in
-  let f : 2 ^ suc (level - 1) ≡ 2 ^ (level - 1) * 2 = pow-suc 2 (level - 1) in
-  let g : root_along s axis * 2 ^ level ≡ root_along s axis * 2 ^ (level - 1) * 2 =
+    let e : level ≡ suc (level - 1) = omega arith in
+    let f : 2 ^ suc (level - 1) ≡ 2 ^ (level - 1) * 2 = pow-suc 2 (level - 1) in
+    let g : root_along s axis * 2 ^ level ≡ root_along s axis * 2 ^ (level - 1) * 2 =
     subst (λ v. root_along s axis * 2 ^ v ≡ root_along s axis * 2 ^ (level - 1) * 2) (sym e) (regroup (root_along s axis) (2 ^ suc (level - 1)) (2 ^ (level - 1)) f) in
-  subst (λ v. root_along s axis * v ^ level ≡ root_along s axis * v ^ (level - 1) * 2) (sym (two s.dims axis h)) g
+    subst (λ v. root_along s axis * v ^ level ≡ root_along s axis * v ^ (level - 1) * 2) (sym (two s.dims axis h)) g
   where
     regroup : (r p q : ℕ) → p ≡ q * 2 → r * p ≡ r * q * 2
     regroup r p q e = subst (λ v. r * v ≡ r * q * 2) (sym e) (omega arith)
@@ -102,9 +103,9 @@ record Steps (n : ℕ) (w high : Bool) (x y : ℕ) : Type 0 where
 
 outer_step : (n : ℕ) (w high : Bool) (x y : ℕ) → x < n * 2 → x % 2 ≡ cond high 1 0 → step (n * 2) w high x ≡ Some y → Steps n w high x y
 outer_step n w true x y h p e = let (z, is, twice) = mapped (λ v. 2 * v) (step n w true (x / 2)) y (sym (halves_up n w x h p) ∙ e) in
-  let half : z ≡ y / 2 = omega arith in record { pair = is ∙ ap Some half; half = omega arith }
+    let half : z ≡ y / 2 = omega arith in record { pair = is ∙ ap Some half; half = omega arith }
 outer_step n w false x y h p e = let (z, is, twice) = mapped (λ v. 2 * v + 1) (step n w false (x / 2)) y (sym (halves_down n w x h p) ∙ e) in
-  let half : z ≡ y / 2 = omega arith in record { pair = is ∙ ap Some half; half = omega arith }
+    let half : z ≡ y / 2 = omega arith in record { pair = is ∙ ap Some half; half = omega arith }
 
 outer_pair : (n : ℕ) (w high : Bool) (x z : ℕ) → x < n * 2 → x % 2 ≡ cond high 1 0 → step n w high (x / 2) ≡ Some z → (y : ℕ) × (step (n * 2) w high x ≡ Some y) × (y / 2 ≡ z) × (y % 2 ≡ cond high 0 1)
 outer_pair n w true x z h p e = (2 * z, halves_up n w x h p ∙ ap (option_map (λ v. 2 * v)) e, omega arith, omega arith)
@@ -134,53 +135,58 @@ crossed_level s c axis high d h = let x = crossed s c axis high d h in sym (ap (
 -- from the outer half of a pair, the pair crosses too, and what is met is the outer half of the other pair
 pub across-parent : (s : Shape) → IsShape s → (c d : Loc) (axis : ℕ) (high : Bool) → axis < s.dims → IsIn s c → 1 ≤ c.level → axis_of c axis % 2 ≡ cond high 1 0 → across s c axis high ≡ Some d → (across s (parent s.dims c) axis high ≡ Some (parent s.dims d)) × (axis_of d axis % 2 ≡ cond high 0 1)
 across-parent s shape c d axis high used inside fine half h =
-  let most = shape.most in
-  let x = crossed s c axis high d h in
-  let n : ℕ = blocks_along s axis (c.level - 1) in
-  let e : blocks_along s axis c.level ≡ n * 2 = blocks_double s axis c.level used fine in
-  let below : axis_of c axis < n * 2 = subst (λ v. axis_of c axis < v) e (inside_along s c axis inside (omega arith)) in
-  let steps = outer_step n (wraps s axis) high (axis_of c axis) x.y below half (subst (λ v. step v (wraps s axis) high (axis_of c axis) ≡ Some x.y) e x.stepped) in
-  let pair : step n (wraps s axis) high (axis_of (parent s.dims c) axis) ≡ Some (x.y / 2) = subst (λ v. step n (wraps s axis) high v ≡ Some (x.y / 2)) (sym (parent_axis s.dims c axis used most)) steps.pair in
-  let f : parent s.dims d ≡ moved (parent s.dims c) axis (x.y / 2) = sym (ap (parent s.dims) x.is) ∙ parent_moved s.dims c axis x.y used most in
-  (crossing s (parent s.dims c) axis high (x.y / 2) pair ∙ ap Some (sym f),
-   subst (λ (v : Loc). axis_of v axis % 2 ≡ cond high 0 1) x.is (subst (λ v. v % 2 ≡ cond high 0 1) (sym (axis_moved c axis x.y)) steps.half))
+    let most = shape.most in
+    let x = crossed s c axis high d h in
+    let n : ℕ = blocks_along s axis (c.level - 1) in
+    let e : blocks_along s axis c.level ≡ n * 2 = blocks_double s axis c.level used fine in
+    let below : axis_of c axis < n * 2 = subst (λ v. axis_of c axis < v) e (inside_along s c axis inside (omega arith)) in
+    let steps = outer_step n (wraps s axis) high (axis_of c axis) x.y below half (subst (λ v. step v (wraps s axis) high (axis_of c axis) ≡ Some x.y) e x.stepped) in
+    let pair : step n (wraps s axis) high (axis_of (parent s.dims c) axis) ≡ Some (x.y / 2) = subst (λ v. step n (wraps s axis) high v ≡ Some (x.y / 2)) (sym (parent_axis s.dims c axis used most)) steps.pair in
+    let f : parent s.dims d ≡ moved (parent s.dims c) axis (x.y / 2) = sym (ap (parent s.dims) x.is) ∙ parent_moved s.dims c axis x.y used most in (
+      crossing s (parent s.dims c) axis high (x.y / 2) pair ∙ ap Some (sym f),
+      subst (λ (v : Loc). axis_of v axis % 2 ≡ cond high 0 1) x.is (subst (λ v. v % 2 ≡ cond high 0 1) (sym (axis_moved c axis x.y)) steps.half),
+    )
 
 -- where the pair crosses, so does its outer half
 pub across-half : (s : Shape) → IsShape s → (c e : Loc) (axis : ℕ) (high : Bool) → axis < s.dims → IsIn s c → 1 ≤ c.level → axis_of c axis % 2 ≡ cond high 1 0 → across s (parent s.dims c) axis high ≡ Some e → (d : Loc) × (across s c axis high ≡ Some d) × (parent s.dims d ≡ e)
 across-half s shape c e axis high used inside fine half h =
-  let most = shape.most in
-  let x = crossed s (parent s.dims c) axis high e h in
-  let n : ℕ = blocks_along s axis (c.level - 1) in
-  let double : blocks_along s axis c.level ≡ n * 2 = blocks_double s axis c.level used fine in
-  let below : axis_of c axis < n * 2 = subst (λ v. axis_of c axis < v) double (inside_along s c axis inside (omega arith)) in
-  let pair : step n (wraps s axis) high (axis_of c axis / 2) ≡ Some x.y = subst (λ v. step n (wraps s axis) high v ≡ Some x.y) (parent_axis s.dims c axis used most) x.stepped in
-  let (y, is, whole, outer) = outer_pair n (wraps s axis) high (axis_of c axis) x.y below half pair in
-  (moved c axis y, crossing s c axis high y (subst (λ v. step v (wraps s axis) high (axis_of c axis) ≡ Some y) (sym double) is),
-   parent_moved s.dims c axis y used most ∙ ap (moved (parent s.dims c) axis) whole ∙ x.is)
+    let most = shape.most in
+    let x = crossed s (parent s.dims c) axis high e h in
+    let n : ℕ = blocks_along s axis (c.level - 1) in
+    let double : blocks_along s axis c.level ≡ n * 2 = blocks_double s axis c.level used fine in
+    let below : axis_of c axis < n * 2 = subst (λ v. axis_of c axis < v) double (inside_along s c axis inside (omega arith)) in
+    let pair : step n (wraps s axis) high (axis_of c axis / 2) ≡ Some x.y = subst (λ v. step n (wraps s axis) high v ≡ Some x.y) (parent_axis s.dims c axis used most) x.stepped in
+    let (y, is, whole, outer) = outer_pair n (wraps s axis) high (axis_of c axis) x.y below half pair in (
+      moved c axis y,
+      crossing s c axis high y (subst (λ v. step v (wraps s axis) high (axis_of c axis) ≡ Some y) (sym double) is),
+      parent_moved s.dims c axis y used most ∙ ap (moved (parent s.dims c) axis) whole ∙ x.is,
+    )
 
 -- from the inner half of a pair one stays in the pair
 pub across-sibling : (s : Shape) → IsShape s → (c : Loc) (axis : ℕ) (high : Bool) → axis < s.dims → IsIn s c → 1 ≤ c.level → axis_of c axis % 2 ≡ cond high 0 1 → (d : Loc) × (across s c axis high ≡ Some d) × (parent s.dims d ≡ parent s.dims c)
 across-sibling s shape c axis high used inside fine half =
-  let most = shape.most in
-  let n : ℕ = blocks_along s axis (c.level - 1) in
-  let double : blocks_along s axis c.level ≡ n * 2 = blocks_double s axis c.level used fine in
-  let below : axis_of c axis < n * 2 = subst (λ v. axis_of c axis < v) double (inside_along s c axis inside (omega arith)) in
-  let (y, is, whole, outer) = inner_step n (wraps s axis) high (axis_of c axis) below half in
-  (moved c axis y, crossing s c axis high y (subst (λ v. step v (wraps s axis) high (axis_of c axis) ≡ Some y) (sym double) is),
-   parent_moved s.dims c axis y used most ∙ ap (moved (parent s.dims c) axis) (whole ∙ sym (parent_axis s.dims c axis used most)) ∙ moved_same (parent s.dims c) axis)
+    let most = shape.most in
+    let n : ℕ = blocks_along s axis (c.level - 1) in
+    let double : blocks_along s axis c.level ≡ n * 2 = blocks_double s axis c.level used fine in
+    let below : axis_of c axis < n * 2 = subst (λ v. axis_of c axis < v) double (inside_along s c axis inside (omega arith)) in
+    let (y, is, whole, outer) = inner_step n (wraps s axis) high (axis_of c axis) below half in (
+      moved c axis y,
+      crossing s c axis high y (subst (λ v. step v (wraps s axis) high (axis_of c axis) ≡ Some y) (sym double) is),
+      parent_moved s.dims c axis y used most ∙ ap (moved (parent s.dims c) axis) (whole ∙ sym (parent_axis s.dims c axis used most)) ∙ moved_same (parent s.dims c) axis,
+    )
 
 -- what lies across a side has what it was seen from across its own opposite side
 pub across-back : (s : Shape) (c d : Loc) (axis : ℕ) (high : Bool) → IsIn s c → axis < 3 → across s c axis high ≡ Some d → across s d axis (not high) ≡ Some c
 across-back s c d axis high inside used h =
-  let x = crossed s c axis high d h in
-  let back = step_back (blocks_along s axis c.level) (wraps s axis) high (axis_of c axis) x.y (inside_along s c axis inside used) x.stepped in
-  let m : Loc = moved c axis x.y in
-  let from : across s m axis (not high) ≡ Some (moved m axis (axis_of c axis)) =
+    let x = crossed s c axis high d h in
+    let back = step_back (blocks_along s axis c.level) (wraps s axis) high (axis_of c axis) x.y (inside_along s c axis inside used) x.stepped in
+    let m : Loc = moved c axis x.y in
+    let from : across s m axis (not high) ≡ Some (moved m axis (axis_of c axis)) =
     crossing s m axis (not high) (axis_of c axis)
-      (subst (λ v. step (blocks_along s axis v) (wraps s axis) (not high) (axis_of m axis) ≡ Some (axis_of c axis)) (sym (moved_level c axis x.y))
-        (subst (λ v. step (blocks_along s axis c.level) (wraps s axis) (not high) v ≡ Some (axis_of c axis)) (sym (axis_moved c axis x.y)) back)) in
-  let to : across s m axis (not high) ≡ Some c = from ∙ ap Some (moved_twice c axis x.y (axis_of c axis) ∙ moved_same c axis) in
-  subst (λ (v : Loc). across s v axis (not high) ≡ Some c) x.is to
+    (subst (λ v. step (blocks_along s axis v) (wraps s axis) (not high) (axis_of m axis) ≡ Some (axis_of c axis)) (sym (moved_level c axis x.y))
+    (subst (λ v. step (blocks_along s axis c.level) (wraps s axis) (not high) v ≡ Some (axis_of c axis)) (sym (axis_moved c axis x.y)) back)) in
+    let to : across s m axis (not high) ≡ Some c = from ∙ ap Some (moved_twice c axis x.y (axis_of c axis) ∙ moved_same c axis) in
+    subst (λ (v : Loc). across s v axis (not high) ≡ Some c) x.is to
 
 -- one step leads to what is near
 step_near : (n : ℕ) (w high : Bool) (x y : ℕ) → x < n → step n w high x ≡ Some y → (is_near n w x y ≡ true) × (y < n)
@@ -206,6 +212,42 @@ moved_touches s c (suc (suc (suc a))) y inside h near below = absurd (omega arit
 -- what lies across a side touches
 pub across-touches : (s : Shape) (c d : Loc) (axis : ℕ) (high : Bool) → IsIn s c → axis < 3 → across s c axis high ≡ Some d → Touches s c d
 across-touches s c d axis high inside used h =
-  let x = crossed s c axis high d h in
-  let near = step_near (blocks_along s axis c.level) (wraps s axis) high (axis_of c axis) x.y (inside_along s c axis inside used) x.stepped in
-  subst (λ (v : Loc). Touches s c v) x.is (moved_touches s c axis x.y inside used near.0 near.1)
+    let x = crossed s c axis high d h in
+    let near = step_near (blocks_along s axis c.level) (wraps s axis) high (axis_of c axis) x.y (inside_along s c axis inside used) x.stepped in
+    subst (λ (v : Loc). Touches s c v) x.is (moved_touches s c axis x.y inside used near.0 near.1)
+
+-- the parents of what is near along an axis are near
+near_halves : (n : ℕ) (w : Bool) (x y : ℕ) → x < n * 2 → y < n * 2 → is_near (n * 2) w x y ≡ true → is_near n w (x / 2) (y / 2) ≡ true
+near_halves n w x y h k e = grind (arith, nat_tests)
+
+near_wholes : (n : ℕ) (w : Bool) (x y : ℕ) → is_near n w x y ≡ true → is_near n w (x / 1) (y / 1) ≡ true
+near_wholes n w x y e = let a : x / 1 ≡ x = omega arith in let b : y / 1 ≡ y = omega arith in
+    subst (λ v. is_near n w v (y / 1) ≡ true) (sym a) (subst (λ v. is_near n w x v ≡ true) (sym b) e)
+
+near_parents : (used : Bool) (root level : ℕ) (w : Bool) (x y : ℕ) → x < root * cond used 2 1 ^ (level + 1) → y < root * cond used 2 1 ^ (level + 1) → is_near (root * cond used 2 1 ^ (level + 1)) w x y ≡ true → is_near (root * cond used 2 1 ^ level) w (x / cond used 2 1) (y / cond used 2 1) ≡ true
+near_parents true root level w x y h k e =
+    let p : 2 ^ suc level ≡ 2 ^ level * 2 = pow-suc 2 level in
+    let q : level + 1 ≡ suc level = omega arith in
+    let double : root * 2 ^ (level + 1) ≡ root * 2 ^ level * 2 = subst (λ v. root * 2 ^ v ≡ root * 2 ^ level * 2) (sym q) (regroup root (2 ^ suc level) (2 ^ level) p) in
+    near_halves (root * 2 ^ level) w x y (subst (λ v. x < v) double h) (subst (λ v. y < v) double k) (subst (λ v. is_near v w x y ≡ true) double e)
+  where
+    regroup : (r p q : ℕ) → p ≡ q * 2 → r * p ≡ r * q * 2
+    regroup r p q e = subst (λ v. r * v ≡ r * q * 2) (sym e) (omega arith)
+near_parents false root level w x y h k e =
+    let p : 1 ^ (level + 1) ≡ 1 ^ level = one_pow (level + 1) ∙ sym (one_pow level) in
+    near_wholes (root * 1 ^ level) w x y (subst (λ v. is_near (root * v) w x y ≡ true) p e)
+
+-- the parents of two locations that touch are one, or touch
+pub parents_touch : (s : Shape) (l m : Loc) → IsIn s l → IsIn s m → 1 ≤ l.level → AreNeighbours s l m → AreNeighbours s (parent s.dims l) (parent s.dims m)
+parents_touch s l m inside there fine near =
+    let level = near.level in
+    let e : l.level ≡ l.level - 1 + 1 = omega arith in
+    let w1 : m.l1 < blocks_along s 0 l.level = subst (λ v. m.l1 < blocks_along s 0 v) level there.within1 in
+    let w2 : m.l2 < blocks_along s 1 l.level = subst (λ v. m.l2 < blocks_along s 1 v) level there.within2 in
+    let w3 : m.l3 < blocks_along s 2 l.level = subst (λ v. m.l3 < blocks_along s 2 v) level there.within3 in
+    record {
+      level = ap (λ v. v - 1) level;
+      near1 = near_parents (nat_lt 0 s.dims) (root_along s 0) (l.level - 1) (wraps s 0) l.l1 m.l1 (subst (λ v. l.l1 < blocks_along s 0 v) e inside.within1) (subst (λ v. m.l1 < blocks_along s 0 v) e w1) (subst (λ v. is_near (blocks_along s 0 v) (wraps s 0) l.l1 m.l1 ≡ true) e near.near1);
+      near2 = near_parents (nat_lt 1 s.dims) (root_along s 1) (l.level - 1) (wraps s 1) l.l2 m.l2 (subst (λ v. l.l2 < blocks_along s 1 v) e inside.within2) (subst (λ v. m.l2 < blocks_along s 1 v) e w2) (subst (λ v. is_near (blocks_along s 1 v) (wraps s 1) l.l2 m.l2 ≡ true) e near.near2);
+      near3 = near_parents (nat_lt 2 s.dims) (root_along s 2) (l.level - 1) (wraps s 2) l.l3 m.l3 (subst (λ v. l.l3 < blocks_along s 2 v) e inside.within3) (subst (λ v. m.l3 < blocks_along s 2 v) e w3) (subst (λ v. is_near (blocks_along s 2 v) (wraps s 2) l.l3 m.l3 ≡ true) e near.near3);
+    }
