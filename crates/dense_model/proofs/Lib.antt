@@ -4,3 +4,4 @@ mod Faces
 mod Opening
 mod RunLemmas
 mod Texts
+pub mod Looks

@@ -2,6 +2,7 @@ pub mod Rules
 pub mod Sums
 pub mod Mesh
 pub mod Look
+pub mod LookLaws
 pub mod Faces
 pub mod Stage
 pub mod Reaction

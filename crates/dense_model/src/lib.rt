@@ -7,12 +7,14 @@
 //!   and changes it in place. Its dumps are those of the definitions, which speak of faces and looks.
 #![tactic(auto)]
 
+mod laws;
 mod one_block;
 mod one_block_dump;
 mod one_block_laws;
 mod one_block_stage;
 mod worked;
 
+pub use laws::look_law;
 pub use one_block::BlockRun;
 pub use one_block_dump::dump_name;
 pub use one_block_laws::{no_total_falls_below_zero, the_sum_stays, worked_row};
