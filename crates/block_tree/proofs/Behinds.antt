@@ -58,7 +58,7 @@ not_node s inner l h = (at_least, λ p. clash (sym (parent_node s inner l p) ∙
     at_least = elim (cases_eq l.level 0) [ inl e ↦ absurd (clash (sym (root_node s inner l e) ∙ h)) | inr d ↦ omega arith ]
 
 -- which half a child is, by its coordinate
-half-is : (dims : ℕ) (c : Loc) (axis : ℕ) → 1 ≤ dims → dims ≤ 3 → axis < dims → is_high_half (child_number dims c) axis ≡ nat_eq (axis_of c axis % 2) 1
+pub half-is : (dims : ℕ) (c : Loc) (axis : ℕ) → 1 ≤ dims → dims ≤ 3 → axis < dims → is_high_half (child_number dims c) axis ≡ nat_eq (axis_of c axis % 2) 1
 half-is zero c axis h k used = absurd (omega arith)
 half-is (suc zero) c zero h k used = ap (λ v. nat_eq v 1) (omega arith)
 half-is (suc zero) c (suc a) h k used = absurd (omega arith)
@@ -72,7 +72,7 @@ half-is (suc (suc (suc zero))) c (suc (suc (suc a))) h k used = absurd (omega ar
 half-is (suc (suc (suc (suc d)))) c axis h k used = absurd (omega arith)
 
 -- the halves of a pair
-parity : (x : ℕ) (high : Bool) → nat_eq (x % 2) 1 ≡ high → x % 2 ≡ cond high 1 0
+pub parity : (x : ℕ) (high : Bool) → nat_eq (x % 2) 1 ≡ high → x % 2 ≡ cond high 1 0
 parity x true h = eqb-true (x % 2) 1 h
 parity x false h = let low : x % 2 < 2 = omega arith in grind (arith, nat_tests)
 
@@ -119,7 +119,7 @@ met : (s : Shape) → IsShape s → (axis : ℕ) (high : Bool) (k : ℕ) (c d l 
 met s shape axis high zero c d l used inside edge h = subst (λ (v : Loc). across s v axis high ≡ Some d) edge h
 met s shape axis high (suc k) c d l used inside (deep, half, rest) h =
     let p = parity (axis_of c axis) high (sym (half-is s.dims c axis shape.least shape.most used) ∙ half) in
-    let up = across-parent s shape c d axis high used inside deep p h in
+    let up = across-parent s shape.most c d axis high used inside deep p h in
     met s shape axis high k (parent s.dims c) (parent s.dims d) l used (parent_inside s c inside deep) rest up.0
 
 met_at : (s : Shape) → IsShape s → (axis : ℕ) (high : Bool) (up k : ℕ) (c d l : Loc) → axis < s.dims → IsIn s c → IsAtEdge s.dims axis high up c l → k ≤ up → across s c axis high ≡ Some d → across s (ancestor s.dims k c) axis high ≡ Some (ancestor s.dims k d)
@@ -193,7 +193,7 @@ has p f a zero j low high pass = absurd (omega arith)
 has p f a (suc n) j low high pass = step_has p f a n j (p a) refl low high pass (λ l. has p f (a + 1) n j l (omega arith) pass)
 
 -- the number of a child, and its half
-number_of_child : (dims : ℕ) (o : Loc) (j : ℕ) → dims ≤ 3 → 1 ≤ dims → j < parts dims → child_number dims (child dims o j) ≡ j
+pub number_of_child : (dims : ℕ) (o : Loc) (j : ℕ) → dims ≤ 3 → 1 ≤ dims → j < parts dims → child_number dims (child dims o j) ≡ j
 number_of_child zero o j most least h = absurd (omega arith)
 number_of_child (suc zero) o j most least h = omega arith
 number_of_child (suc (suc zero)) o j most least h = omega arith
@@ -206,7 +206,7 @@ passes_half false true h = h
 passes_half true false h = sym h
 passes_half false false h = refl
 
-half_passes : (b high : Bool) → cond high b (not b) ≡ true → b ≡ high
+pub half_passes : (b high : Bool) → cond high b (not b) ≡ true → b ≡ high
 half_passes true true h = refl
 half_passes false true h = h
 half_passes true false h = sym h
@@ -249,9 +249,9 @@ named_fine s inner l o axis j high set meet io number half =
     let halved : nat_eq (axis_of m axis % 2) 1 ≡ not high = sym (half-is s.dims m axis set.shape.least set.shape.most set.used) ∙ ap (λ v. is_high_half v axis) (number_of_child s.dims o j set.shape.most set.shape.least number) ∙ half in
     let p = parity (axis_of m axis) (not high) halved in
     let back : across s o axis (not high) ≡ Some l = across-back s l o axis high set.leaf.inside (omega arith) meet in
-    let (c, crosses, top) = across-half s set.shape m l axis (not high) set.used inside (omega arith) p (ap (λ (v : Loc). across s v axis (not high)) e ∙ back) in
+    let (c, crosses, top) = across-half s set.shape.most m l axis (not high) set.used inside (omega arith) p (ap (λ (v : Loc). across s v axis (not high)) e ∙ back) in
     let again : across s c axis high ≡ Some m = subst (λ (b : Bool). across s c axis b ≡ Some m) (not_not high) (across-back s m c axis (not high) inside (omega arith) crosses) in
-    let lower = across-parent s set.shape m c axis (not high) set.used inside (omega arith) p crosses in
+    let lower = across-parent s set.shape.most m c axis (not high) set.used inside (omega arith) p crosses in
     let edge : is_high_half (child_number s.dims c) axis ≡ high = half-is s.dims c axis set.shape.least set.shape.most set.used ∙ is_half (axis_of c axis) high (lower.1 ∙ other_half high) in
     let c_level = crossed_level s m axis (not high) c crosses in
     let c_inside = (across-touches s m c axis (not high) inside (omega arith) crosses).inside in
@@ -282,7 +282,7 @@ outer_of s inner l o axis high set meet none =
     elim (either_half (nat_eq (axis_of l axis % 2) 1) high) [
       | inl h ↦ parity (axis_of l axis) high h
       | inr h ↦
-          let (d, crosses, siblings) = across-sibling s set.shape l axis high set.used set.leaf.inside (omega arith) (parity_other (axis_of l axis) high h) in
+          let (d, crosses, siblings) = across-sibling s set.shape.most l axis high set.used set.leaf.inside (omega arith) (parity_other (axis_of l axis) high h) in
           let is : d ≡ o = some_is d o (sym crosses ∙ meet) in
           let io : inner (parent s.dims o) ≡ true = ap (λ (v : Loc). inner (parent s.dims v)) (sym is) ∙ ap inner siblings ∙ node_parent s inner l (omega arith) set.leaf.node in
           absurd (deep.1 io)
@@ -300,7 +300,7 @@ named_coarse s inner l o axis high set meet none =
     let same_level = crossed_level s l axis high o meet in
     let p = outer_of s inner l o axis high set meet none in
     let o_inside = (across-touches s l o axis high set.leaf.inside (omega arith) meet).inside in
-    let pair = across-parent s set.shape l o axis high set.used set.leaf.inside (omega arith) p meet in
+    let pair = across-parent s set.shape.most l o axis high set.used set.leaf.inside (omega arith) p meet in
     let parent_is = node_parent s inner l (omega arith) set.leaf.node in
     record {
       leaf = record {
@@ -378,7 +378,7 @@ far_half s inner l m axis high set t k less =
     let level = ancestor_level s.dims k t.c few in
     let half = edge_half s.dims axis high t.up k t.c l less t.here in
     let p = parity (axis_of c axis) high (sym (half-is s.dims c axis set.shape.least set.shape.most set.used) ∙ half) in
-    let pair = across-parent s set.shape c d axis high set.used (ancestor_inside s k t.c t.inside few) (omega arith) p crosses in
+    let pair = across-parent s set.shape.most c d axis high set.used (ancestor_inside s k t.c t.inside few) (omega arith) p crosses in
     half-is s.dims d axis set.shape.least set.shape.most set.used ∙ is_parity (axis_of d axis) high pair.1
 
 -- a finer leaf that touches is a child of the location across
@@ -436,7 +436,7 @@ coarser_is s inner l m o axis high set leaf crosses none zero few top = sym top
 coarser_is s inner l m o axis high set leaf crosses none (suc e) few top =
     let same_level = crossed_level s l axis high o crosses in
     let p = outer_of s inner l o axis high set crosses none in
-    let pair = across-parent s set.shape l o axis high set.used set.leaf.inside (omega arith) p crosses in
+    let pair = across-parent s set.shape.most l o axis high set.used set.leaf.inside (omega arith) p crosses in
     let node = across_node s inner set.shape set.tree set.balanced (parent s.dims l) (parent s.dims o) axis high set.used (node_parent s inner l (omega arith) set.leaf.node) pair.0 in
     let im = strict_inner s inner set.tree e (parent s.dims o) node (omega arith) in
     absurd (leaf.outer (ap inner (sym top) ∙ im))

@@ -5,3 +5,6 @@ mod Opening
 mod RunLemmas
 mod Texts
 pub mod Looks
+pub mod Portions
+pub mod Flips
+pub mod Pays

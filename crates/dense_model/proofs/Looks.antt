@@ -21,7 +21,7 @@ swapped x a n = div-div-eq-div-mul x a n ∙ ap (λ v. x / v) (mul_comm a n) ∙
 -- the block of a parent is the parent of the block
 pub block_parent : (m : Mesh) (c : Loc) → block_of m (parent m.shape.dims c) ≡ parent m.shape.dims (block_of m c)
 block_parent m c = same_as (parent m.shape.dims (block_of m c)) (block_of m (parent m.shape.dims c)) refl
-  (swapped c.l1 (factor m.shape.dims 0) (cells_along m 0)) (swapped c.l2 (factor m.shape.dims 1) (cells_along m 1)) (swapped c.l3 (factor m.shape.dims 2) (cells_along m 2))
+    (swapped c.l1 (factor m.shape.dims 0) (cells_along m 0)) (swapped c.l2 (factor m.shape.dims 1) (cells_along m 1)) (swapped c.l3 (factor m.shape.dims 2) (cells_along m 2))
 
 -- the parent of a child's block is the cell's block
 pub block_child : (m : Mesh) (c : Loc) (j : ℕ) → parent m.shape.dims (block_of m (child m.shape.dims c j)) ≡ block_of m c
@@ -39,23 +39,23 @@ sum_to-same (suc n) g h e = let a = sum_to-same n g h (λ j l. e j (omega arith)
 
 gathered_finer : (k : ℕ) (m : Mesh) (f : ℕ) (c : Loc) → is_inner m (block_of m c) ≡ true → ((j : ℕ) → j < parts m.shape.dims → OnLeaf m (child m.shape.dims c j)) → gathered (suc k) m f c ≡ sum_to (parts m.shape.dims) (λ j. stored m f (child m.shape.dims c j))
 gathered_finer k m f c h leaves =
-  ap (λ (b : Bool). sum_where b (parts m.shape.dims) (λ j. gathered k m f (child m.shape.dims c j)) (stored m f c)) h
-  ∙ sum_to-same (parts m.shape.dims) (λ j. gathered k m f (child m.shape.dims c j)) (λ j. stored m f (child m.shape.dims c j))
+    ap (λ (b : Bool). sum_where b (parts m.shape.dims) (λ j. gathered k m f (child m.shape.dims c j)) (stored m f c)) h
+    ∙ sum_to-same (parts m.shape.dims) (λ j. gathered k m f (child m.shape.dims c j)) (λ j. stored m f (child m.shape.dims c j))
     (λ j l. gathered_leaf k m f (child m.shape.dims c j) (fails (is_inner m (block_of m (child m.shape.dims c j))) (leaves j l).outer))
 
 -- on a leaf nothing is spread
 spread_leaf : (k : ℕ) (m : Mesh) (f : ℕ) (c : Loc) → c.level ≡ k → is_node m.shape (is_inner m) (block_of m c) ≡ true → spread k m f c ≡ stored m f c
 spread_leaf zero m f c e node = refl
 spread_leaf (suc k) m f c e node =
-  let inner : is_inner m (block_of m (parent m.shape.dims c)) ≡ true = ap (is_inner m) (block_parent m c) ∙ node_parent m.shape (is_inner m) (block_of m c) (omega arith) node in
-  ap (λ (b : Bool). cond b (stored m f c) (share (spread k m f (parent m.shape.dims c)) (parts m.shape.dims) (child_number m.shape.dims c))) inner
+    let inner : is_inner m (block_of m (parent m.shape.dims c)) ≡ true = ap (is_inner m) (block_parent m c) ∙ node_parent m.shape (is_inner m) (block_of m c) (omega arith) node in
+    ap (λ (b : Bool). cond b (stored m f c) (share (spread k m f (parent m.shape.dims c)) (parts m.shape.dims) (child_number m.shape.dims c))) inner
 
 -- below a coarser leaf its total is shared
 spread_coarser : (k : ℕ) (m : Mesh) (f : ℕ) (c : Loc) → c.level ≡ suc k → OnLeaf m (parent m.shape.dims c) → spread (suc k) m f c ≡ share (stored m f (parent m.shape.dims c)) (parts m.shape.dims) (child_number m.shape.dims c)
 spread_coarser k m f c e leaf =
-  let outer = fails (is_inner m (block_of m (parent m.shape.dims c))) leaf.outer in
-  ap (λ (b : Bool). cond b (stored m f c) (share (spread k m f (parent m.shape.dims c)) (parts m.shape.dims) (child_number m.shape.dims c))) outer
-  ∙ ap (λ v. share v (parts m.shape.dims) (child_number m.shape.dims c)) (spread_leaf k m f (parent m.shape.dims c) (omega arith) leaf.node)
+    let outer = fails (is_inner m (block_of m (parent m.shape.dims c))) leaf.outer in
+    ap (λ (b : Bool). cond b (stored m f c) (share (spread k m f (parent m.shape.dims c)) (parts m.shape.dims) (child_number m.shape.dims c))) outer
+    ∙ ap (λ v. share v (parts m.shape.dims) (child_number m.shape.dims c)) (spread_leaf k m f (parent m.shape.dims c) (omega arith) leaf.node)
 
 -- the two sides of the look
 look_inner : (m : Mesh) (f : ℕ) (c : Loc) → is_inner m (block_of m c) ≡ true → look m f c ≡ gathered 10 m f c

@@ -9,6 +9,7 @@ pub mod Reaction
 pub mod Tags
 pub mod Remesh
 pub mod Mask
+pub mod PayLaws
 pub mod Run
 pub mod Texts
 pub mod Worked

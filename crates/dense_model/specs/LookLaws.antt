@@ -26,9 +26,9 @@ OnLeaf m c = IsLeaf m.shape (is_inner m) (block_of m c)
 pub record LooksRight (m : Mesh) (f : ℕ) (c : Loc) : Type 0 where
   pub at_leaf : OnLeaf m c → look m f c ≡ stored m f c
   pub one_finer : IsTrue (is_inner m (block_of m c)) → ((j : ℕ) → j < parts m.shape.dims → OnLeaf m (child m.shape.dims c j)) →
-    look m f c ≡ sum_to (parts m.shape.dims) (λ j. stored m f (child m.shape.dims c j))
+      look m f c ≡ sum_to (parts m.shape.dims) (λ j. stored m f (child m.shape.dims c j))
   pub one_coarser : 1 ≤ c.level → OnLeaf m (parent m.shape.dims c) →
-    look m f c ≡ share (stored m f (parent m.shape.dims c)) (parts m.shape.dims) (child_number m.shape.dims c)
+      look m f c ≡ share (stored m f (parent m.shape.dims c)) (parts m.shape.dims) (child_number m.shape.dims c)
 
 abbrev pub LookLaw : Type 0
 LookLaw = (m : Mesh) (f : ℕ) (c : Loc) → IsMesh m → LooksRight m f c

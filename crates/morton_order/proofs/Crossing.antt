@@ -6,7 +6,7 @@ use Rattle.std.proofs.lemmas.Bool.{lt-ltb}
 use Rattle.std.proofs.lemmas.Bool.Decides.{nat_tests}
 use Rattle.morton_order.specs.declared.space.Loc.{Loc}
 use Rattle.morton_order.specs.declared.space.Shape.{Shape}
-use Rattle.morton_order.specs.Space.{IsIn, IsShape, axis_of, blocks_along, child, child_number, factor, parent, root_along, wraps}
+use Rattle.morton_order.specs.Space.{IsIn, axis_of, blocks_along, child, child_number, factor, parent, root_along, wraps}
 use Rattle.morton_order.specs.Neighbours.{AreNeighbours, across, beside, is_near, moved, step}
 use Rattle.morton_order.proofs.Lattice.{one_pow}
 use Rattle.morton_order.proofs.Touching.{Touches, near_self, same_as, step_down, step_up}
@@ -133,10 +133,9 @@ pub crossed_level : (s : Shape) (c : Loc) (axis : ℕ) (high : Bool) (d : Loc) �
 crossed_level s c axis high d h = let x = crossed s c axis high d h in sym (ap (λ (v : Loc). v.level) x.is) ∙ moved_level c axis x.y
 
 -- from the outer half of a pair, the pair crosses too, and what is met is the outer half of the other pair
-pub across-parent : (s : Shape) → IsShape s → (c d : Loc) (axis : ℕ) (high : Bool) → axis < s.dims → IsIn s c → 1 ≤ c.level → axis_of c axis % 2 ≡ cond high 1 0 → across s c axis high ≡ Some d → (across s (parent s.dims c) axis high ≡ Some (parent s.dims d)) × (axis_of d axis % 2 ≡ cond high 0 1)
-across-parent s shape c d axis high used inside fine half h =
-    let most = shape.most in
-    let x = crossed s c axis high d h in
+pub across-parent : (s : Shape) → s.dims ≤ 3 → (c d : Loc) (axis : ℕ) (high : Bool) → axis < s.dims → IsIn s c → 1 ≤ c.level → axis_of c axis % 2 ≡ cond high 1 0 → across s c axis high ≡ Some d → (across s (parent s.dims c) axis high ≡ Some (parent s.dims d)) × (axis_of d axis % 2 ≡ cond high 0 1)
+across-parent s most c d axis high used inside fine half h =
+      let x = crossed s c axis high d h in
     let n : ℕ = blocks_along s axis (c.level - 1) in
     let e : blocks_along s axis c.level ≡ n * 2 = blocks_double s axis c.level used fine in
     let below : axis_of c axis < n * 2 = subst (λ v. axis_of c axis < v) e (inside_along s c axis inside (omega arith)) in
@@ -148,10 +147,9 @@ across-parent s shape c d axis high used inside fine half h =
     )
 
 -- where the pair crosses, so does its outer half
-pub across-half : (s : Shape) → IsShape s → (c e : Loc) (axis : ℕ) (high : Bool) → axis < s.dims → IsIn s c → 1 ≤ c.level → axis_of c axis % 2 ≡ cond high 1 0 → across s (parent s.dims c) axis high ≡ Some e → (d : Loc) × (across s c axis high ≡ Some d) × (parent s.dims d ≡ e)
-across-half s shape c e axis high used inside fine half h =
-    let most = shape.most in
-    let x = crossed s (parent s.dims c) axis high e h in
+pub across-half : (s : Shape) → s.dims ≤ 3 → (c e : Loc) (axis : ℕ) (high : Bool) → axis < s.dims → IsIn s c → 1 ≤ c.level → axis_of c axis % 2 ≡ cond high 1 0 → across s (parent s.dims c) axis high ≡ Some e → (d : Loc) × (across s c axis high ≡ Some d) × (parent s.dims d ≡ e)
+across-half s most c e axis high used inside fine half h =
+      let x = crossed s (parent s.dims c) axis high e h in
     let n : ℕ = blocks_along s axis (c.level - 1) in
     let double : blocks_along s axis c.level ≡ n * 2 = blocks_double s axis c.level used fine in
     let below : axis_of c axis < n * 2 = subst (λ v. axis_of c axis < v) double (inside_along s c axis inside (omega arith)) in
@@ -163,10 +161,9 @@ across-half s shape c e axis high used inside fine half h =
     )
 
 -- from the inner half of a pair one stays in the pair
-pub across-sibling : (s : Shape) → IsShape s → (c : Loc) (axis : ℕ) (high : Bool) → axis < s.dims → IsIn s c → 1 ≤ c.level → axis_of c axis % 2 ≡ cond high 0 1 → (d : Loc) × (across s c axis high ≡ Some d) × (parent s.dims d ≡ parent s.dims c)
-across-sibling s shape c axis high used inside fine half =
-    let most = shape.most in
-    let n : ℕ = blocks_along s axis (c.level - 1) in
+pub across-sibling : (s : Shape) → s.dims ≤ 3 → (c : Loc) (axis : ℕ) (high : Bool) → axis < s.dims → IsIn s c → 1 ≤ c.level → axis_of c axis % 2 ≡ cond high 0 1 → (d : Loc) × (across s c axis high ≡ Some d) × (parent s.dims d ≡ parent s.dims c)
+across-sibling s most c axis high used inside fine half =
+      let n : ℕ = blocks_along s axis (c.level - 1) in
     let double : blocks_along s axis c.level ≡ n * 2 = blocks_double s axis c.level used fine in
     let below : axis_of c axis < n * 2 = subst (λ v. axis_of c axis < v) double (inside_along s c axis inside (omega arith)) in
     let (y, is, whole, outer) = inner_step n (wraps s axis) high (axis_of c axis) below half in (
@@ -251,3 +248,10 @@ parents_touch s l m inside there fine near =
       near2 = near_parents (nat_lt 1 s.dims) (root_along s 1) (l.level - 1) (wraps s 1) l.l2 m.l2 (subst (λ v. l.l2 < blocks_along s 1 v) e inside.within2) (subst (λ v. m.l2 < blocks_along s 1 v) e w2) (subst (λ v. is_near (blocks_along s 1 v) (wraps s 1) l.l2 m.l2 ≡ true) e near.near2);
       near3 = near_parents (nat_lt 2 s.dims) (root_along s 2) (l.level - 1) (wraps s 2) l.l3 m.l3 (subst (λ v. l.l3 < blocks_along s 2 v) e inside.within3) (subst (λ v. m.l3 < blocks_along s 2 v) e w3) (subst (λ v. is_near (blocks_along s 2 v) (wraps s 2) l.l3 m.l3 ≡ true) e near.near3);
     }
+
+-- what lies across a side is the location moved along the axis
+pub across-moved : (s : Shape) (c d : Loc) (axis : ℕ) (high : Bool) → across s c axis high ≡ Some d → d ≡ moved c axis (axis_of d axis)
+across-moved s c d axis high h =
+  let x = crossed s c axis high d h in
+  let y : axis_of d axis ≡ x.y = ap (λ (v : Loc). axis_of v axis) (sym x.is) ∙ axis_moved c axis x.y in
+  sym x.is ∙ ap (moved c axis) (sym y)
