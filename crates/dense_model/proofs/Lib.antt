@@ -8,3 +8,4 @@ pub mod Looks
 pub mod Portions
 pub mod Flips
 pub mod Pays
+pub mod Grids
