@@ -15,7 +15,7 @@ pub sum_zero : (n : ℕ) (g : ℕ → ℕ) → ((i : ℕ) → i < n → g i ≡ 
 sum_zero zero g h = refl
 sum_zero (suc n) g h = let e = sum_zero n g (λ i l. h i (omega arith)) in let f = h n (omega arith) in omega arith
 
-sum_nothing : (n : ℕ) → sum_to n (λ _. 0) ≡ 0
+pub sum_nothing : (n : ℕ) → sum_to n (λ _. 0) ≡ 0
 sum_nothing n = sum_zero n (λ _. 0) (λ i l. refl)
 
 -- two sums in either order

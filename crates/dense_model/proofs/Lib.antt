@@ -9,3 +9,5 @@ pub mod Portions
 pub mod Flips
 pub mod Pays
 pub mod Grids
+pub mod Lattices
+pub mod LeafSums
