@@ -76,7 +76,7 @@ pub parity : (x : ℕ) (high : Bool) → nat_eq (x % 2) 1 ≡ high → x % 2 ≡
 parity x true h = eqb-true (x % 2) 1 h
 parity x false h = let low : x % 2 < 2 = omega arith in grind (arith, nat_tests)
 
-parity_other : (x : ℕ) (high : Bool) → nat_eq (x % 2) 1 ≡ not high → x % 2 ≡ cond high 0 1
+pub parity_other : (x : ℕ) (high : Bool) → nat_eq (x % 2) 1 ≡ not high → x % 2 ≡ cond high 0 1
 parity_other x true h = let low : x % 2 < 2 = omega arith in grind (arith, nat_tests)
 parity_other x false h = eqb-true (x % 2) 1 h
 
@@ -84,7 +84,7 @@ is_parity : (x : ℕ) (high : Bool) → x % 2 ≡ cond high 0 1 → nat_eq (x % 
 is_parity x true h = ap (λ v. nat_eq v 1) h
 is_parity x false h = ap (λ v. nat_eq v 1) h
 
-either_half : (b high : Bool) → (b ≡ high) ⊎ (b ≡ not high)
+pub either_half : (b high : Bool) → (b ≡ high) ⊎ (b ≡ not high)
 either_half true true = inl refl
 either_half true false = inr refl
 either_half false true = inr refl
@@ -200,7 +200,7 @@ number_of_child (suc (suc zero)) o j most least h = omega arith
 number_of_child (suc (suc (suc zero))) o j most least h = omega arith
 number_of_child (suc (suc (suc (suc d)))) o j most least h = absurd (omega arith)
 
-passes_half : (b high : Bool) → b ≡ high → cond high b (not b) ≡ true
+pub passes_half : (b high : Bool) → b ≡ high → cond high b (not b) ≡ true
 passes_half true true h = refl
 passes_half false true h = h
 passes_half true false h = sym h

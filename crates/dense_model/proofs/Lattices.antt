@@ -124,3 +124,8 @@ finer_lattice s least most level h =
       ∙ ap (λ t. h (place (level + 1) (x * factor s.dims 0 + u) (y * factor s.dims 1 + v) t)) c
     wide : (n1 n2 n3 a b c : ℕ) → blocks_along s 0 (level + 1) ≡ a → blocks_along s 1 (level + 1) ≡ b → blocks_along s 2 (level + 1) ≡ c → (g : ℕ → ℕ → ℕ → ℕ) → grid a b c g ≡ grid (blocks_along s 0 (level + 1)) (blocks_along s 1 (level + 1)) (blocks_along s 2 (level + 1)) g
     wide n1 n2 n3 a b c p q r g = sym (ap (λ t. grid t (blocks_along s 1 (level + 1)) (blocks_along s 2 (level + 1)) g) p ∙ ap (λ t. grid a t (blocks_along s 2 (level + 1)) g) q ∙ ap (λ t. grid a b t g) r)
+
+-- nothing everywhere
+pub lattice_nothing : (s : Shape) (level : ℕ) → lattice s level (λ c. 0) ≡ 0
+lattice_nothing s level = sum_zero (blocks_along s 0 level) (λ x. sum_to (blocks_along s 1 level) (λ y. sum_to (blocks_along s 2 level) (λ z. 0)))
+  (λ x p. sum_zero (blocks_along s 1 level) (λ y. sum_to (blocks_along s 2 level) (λ z. 0)) (λ y q. sum_zero (blocks_along s 2 level) (λ z. 0) (λ z r. refl)))

@@ -11,3 +11,6 @@ pub mod Pays
 pub mod Grids
 pub mod Lattices
 pub mod LeafSums
+pub mod Adjacent
+pub mod Balances
+pub mod Conserves

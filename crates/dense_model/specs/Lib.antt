@@ -10,6 +10,7 @@ pub mod Tags
 pub mod Remesh
 pub mod Mask
 pub mod PayLaws
+pub mod StageLaws
 pub mod Run
 pub mod Texts
 pub mod Worked
