@@ -15,11 +15,12 @@ use Rattle.dense_model.specs.LookLaws.{IsMesh}
 -- the quotient of the next number
 next_quotient : (x n : ℕ) → 1 ≤ n → ((x + 1) / n ≡ x / n) ⊎ ((x + 1) / n ≡ x / n + 1)
 next_quotient x n h =
-  let split : x / n * n + x % n ≡ x = div-add-mod' x n in
-  let small : x % n < n = mod_below x n h in
-  elim (cases_lt (x % n + 1) n) [
-    inl less ↦ inl (div-eq_of_lt-le n (omega arith) (omega arith))
-  | inr more ↦ inr (div-eq_of_lt-le n (omega arith) (omega arith)) ]
+    let split : x / n * n + x % n ≡ x = div-add-mod' x n in
+    let small : x % n < n = mod_below x n h in
+    elim (cases_lt (x % n + 1) n) [
+      | inl less ↦ inl (div-eq_of_lt-le n (omega arith) (omega arith))
+      | inr more ↦ inr (div-eq_of_lt-le n (omega arith) (omega arith))
+    ]
 
 -- the quotient of the last number
 last_quotient : (x r n : ℕ) → 1 ≤ n → x + 1 ≡ r * n → x / n + 1 ≡ r
@@ -36,14 +37,17 @@ data Near (n : ℕ) (w : Bool) (x y : ℕ) : Type 0 where
 
 near_ways : (n : ℕ) (w : Bool) (x y : ℕ) → is_near n w x y ≡ true → Near n w x y
 near_ways n w x y h = elim (or_cases (x == y || x + 1 == y || y + 1 == x) (w && ((x + 1 == n && y == 0) || (y + 1 == n && x == 0))) h) [
-    inl close ↦ elim (or_cases (x == y || x + 1 == y) (y + 1 == x) close) [
-      inl c ↦ elim (or_cases (x == y) (x + 1 == y) c) [ inl a ↦ here (eqb-true x y a) | inr a ↦ above (eqb-true (x + 1) y a) ]
-    | inr a ↦ under (eqb-true (y + 1) x a) ]
+  | inl close ↦ elim (or_cases (x == y || x + 1 == y) (y + 1 == x) close) [
+    | inl c ↦ elim (or_cases (x == y) (x + 1 == y) c) [ inl a ↦ here (eqb-true x y a) | inr a ↦ above (eqb-true (x + 1) y a) ]
+    | inr a ↦ under (eqb-true (y + 1) x a)
+  ]
   | inr far ↦
       let a = and_parts w ((x + 1 == n && y == 0) || (y + 1 == n && x == 0)) far in
       elim (or_cases (x + 1 == n && y == 0) (y + 1 == n && x == 0) a.1) [
-        inl b ↦ let c = and_parts (x + 1 == n) (y == 0) b in round a.0 (eqb-true (x + 1) n c.0) (eqb-true y 0 c.1)
-      | inr b ↦ let c = and_parts (y + 1 == n) (x == 0) b in around a.0 (eqb-true (y + 1) n c.0) (eqb-true x 0 c.1) ] ]
+        | inl b ↦ let c = and_parts (x + 1 == n) (y == 0) b in round a.0 (eqb-true (x + 1) n c.0) (eqb-true y 0 c.1)
+        | inr b ↦ let c = and_parts (y + 1 == n) (x == 0) b in around a.0 (eqb-true (y + 1) n c.0) (eqb-true x 0 c.1)
+      ]
+]
 
 ways_near : (n : ℕ) (w : Bool) (x y : ℕ) → Near n w x y → is_near n w x y ≡ true
 ways_near n w x y (here e) = grind (arith, nat_tests)
@@ -56,18 +60,20 @@ ways_near n w x y (around a e f) = grind (arith, nat_tests)
 near_quotients : (r n : ℕ) (w : Bool) (x y : ℕ) → 1 ≤ n → Near (r * n) w x y → Near r w (x / n) (y / n)
 near_quotients r n w x y h (here e) = here (ap (λ v. v / n) e)
 near_quotients r n w x y h (above e) = elim (next_quotient x n h) [
-    inl q ↦ here (sym (ap (λ v. v / n) (sym e) ∙ q))
-  | inr q ↦ above (sym q ∙ ap (λ v. v / n) e) ]
+  | inl q ↦ here (sym (ap (λ v. v / n) (sym e) ∙ q))
+  | inr q ↦ above (sym q ∙ ap (λ v. v / n) e)
+]
 near_quotients r n w x y h (under e) = elim (next_quotient y n h) [
-    inl q ↦ here (ap (λ v. v / n) (sym e) ∙ q)
-  | inr q ↦ under (sym q ∙ ap (λ v. v / n) e) ]
+  | inl q ↦ here (ap (λ v. v / n) (sym e) ∙ q)
+  | inr q ↦ under (sym q ∙ ap (λ v. v / n) e)
+]
 near_quotients r n w x y h (round a e f) = round a (last_quotient x r n h e) (let z : 0 / n ≡ 0 = omega arith in ap (λ v. v / n) f ∙ z)
 near_quotients r n w x y h (around a e f) = around a (last_quotient y r n h e) (let z : 0 / n ≡ 0 = omega arith in ap (λ v. v / n) f ∙ z)
 
 near_blocks : (r n p : ℕ) (w : Bool) (x y : ℕ) → 1 ≤ n → is_near (r * n * p) w x y ≡ true → is_near (r * p) w (x / n) (y / n) ≡ true
 near_blocks r n p w x y h e =
-  let turned : r * n * p ≡ r * p * n = omega arith in
-  ways_near (r * p) w (x / n) (y / n) (near_quotients (r * p) n w x y h (near_ways (r * p * n) w x y (subst (λ v. is_near v w x y ≡ true) turned e)))
+    let turned : r * n * p ≡ r * p * n = omega arith in
+    ways_near (r * p) w (x / n) (y / n) (near_quotients (r * p) n w x y h (near_ways (r * p * n) w x y (subst (λ v. is_near v w x y ≡ true) turned e)))
 
 -- the block of a cell lies in the domain
 below_end : (r n p x : ℕ) → 1 ≤ n → x < r * n * p → x / n < r * p

@@ -69,13 +69,13 @@ fine_part rules m f axis right high c o = cond (is_inner m (block_of m o)) (fine
 -- what passes a side of a cell from within the mesh
 abbrev pub interior : Rules → Mesh → ℕ → ℕ → Bool → Bool → Loc → ℕ
 interior rules m f axis right high c = at_option (cell_across m c axis high) (λ o. flux_where (is_inner m (block_of m o))
-  (λ j. own_flux rules m f (child m.shape.dims o j) axis (not high) (cell_across m (child m.shape.dims o j) axis (not high)) right)
-  (children_at m.shape.dims axis (not high)) (own_flux rules m f c axis high (Some o) right))
+    (λ j. own_flux rules m f (child m.shape.dims o j) axis (not high) (cell_across m (child m.shape.dims o j) axis (not high)) right)
+    (children_at m.shape.dims axis (not high)) (own_flux rules m f c axis high (Some o) right))
 
 -- the three parts
 three_parts : (rules : Rules) (m : Mesh) (f axis : ℕ) (right high : Bool) (c o : Loc) → (inner node : Bool) → (inner ≡ true → node ≡ true) →
-  flux_where inner (λ j. finer_flux rules m f axis (not high) right (child m.shape.dims o j)) (children_at m.shape.dims axis (not high)) (own_flux rules m f c axis high (Some o) right)
-  ≡ cond (node && not inner) (own_flux rules m f c axis high (Some o) right) 0 + cond node 0 (own_flux rules m f c axis high (Some o) right) + cond inner (fine_sum rules m f axis right high o) 0
+    flux_where inner (λ j. finer_flux rules m f axis (not high) right (child m.shape.dims o j)) (children_at m.shape.dims axis (not high)) (own_flux rules m f c axis high (Some o) right)
+    ≡ cond (node && not inner) (own_flux rules m f c axis high (Some o) right) 0 + cond node 0 (own_flux rules m f c axis high (Some o) right) + cond inner (fine_sum rules m f axis right high o) 0
 three_parts rules m f axis right high c o true true h = omega arith
 three_parts rules m f axis right high c o true false h = absurd (false≢true (h refl))
 three_parts rules m f axis right high c o false true h = omega arith
@@ -84,8 +84,9 @@ three_parts rules m f axis right high c o false false h = omega arith
 -- an inner block is a node
 inner_is_node : (m : Mesh) → IsMesh m → (l : Loc) → is_inner m l ≡ true → is_node m.shape (is_inner m) l ≡ true
 inner_is_node m mesh l h = elim (cases_eq l.level 0) [
-    inl root ↦ root_node m.shape (is_inner m) l root
-  | inr deep ↦ parent_node m.shape (is_inner m) l (mesh.tree.closed l h (omega arith)) ]
+  | inl root ↦ root_node m.shape (is_inner m) l root
+  | inr deep ↦ parent_node m.shape (is_inner m) l (mesh.tree.closed l h (omega arith))
+]
 
 -- a side's parts on a level
 abbrev part_on : (Loc → Loc → ℕ) → Mesh → ℕ → Bool → ℕ → ℕ
@@ -93,41 +94,42 @@ part_on part m axis high level = lattice (cell_lattice m) level (counts m (λ c.
 
 -- a level's interior flux in three parts
 level_parts : (rules : Rules) (m : Mesh) → IsMesh m → (f axis : ℕ) (right high : Bool) (level : ℕ) → level ≤ 10 →
-  lattice (cell_lattice m) level (counts m (interior rules m f axis right high))
-  ≡ part_on (same_part rules m f axis right high) m axis high level + part_on (coarse_part rules m f axis right high) m axis high level + part_on (fine_part rules m f axis right high) m axis high level
+    lattice (cell_lattice m) level (counts m (interior rules m f axis right high))
+    ≡ part_on (same_part rules m f axis right high) m axis high level + part_on (coarse_part rules m f axis right high) m axis high level + part_on (fine_part rules m f axis right high) m axis high level
 level_parts rules m mesh f axis right high level few =
-  lattice_same (cell_lattice m) level (counts m (interior rules m f axis right high)) (λ c. (counts m (at same_part) c + counts m (at coarse_part) c) + counts m (at fine_part) c) few (λ c inside on. each c)
-  ∙ lattice_plus (cell_lattice m) level (λ c. counts m (at same_part) c + counts m (at coarse_part) c) (counts m (at fine_part))
-  ∙ ap (λ v. v + part_on (fine_part rules m f axis right high) m axis high level) (lattice_plus (cell_lattice m) level (counts m (at same_part)) (counts m (at coarse_part)))
+    lattice_same (cell_lattice m) level (counts m (interior rules m f axis right high)) (λ c. (counts m (at same_part) c + counts m (at coarse_part) c) + counts m (at fine_part) c) few (λ c inside on. each c)
+    ∙ lattice_plus (cell_lattice m) level (λ c. counts m (at same_part) c + counts m (at coarse_part) c) (counts m (at fine_part))
+    ∙ ap (λ v. v + part_on (fine_part rules m f axis right high) m axis high level) (lattice_plus (cell_lattice m) level (counts m (at same_part)) (counts m (at coarse_part)))
   where
     at : (Rules → Mesh → ℕ → ℕ → Bool → Bool → Loc → Loc → ℕ) → Loc → ℕ
     at part c = at_option (cell_across m c axis high) (part rules m f axis right high c)
+
     each : (c : Loc) → counts m (interior rules m f axis right high) c ≡ (counts m (at same_part) c + counts m (at coarse_part) c) + counts m (at fine_part) c
     each c =
-      let o : Option Loc = cell_across m c axis high in
-      let split : interior rules m f axis right high c ≡ (at same_part c + at coarse_part c) + at fine_part c =
+        let o : Option Loc = cell_across m c axis high in
+        let split : interior rules m f axis right high c ≡ (at same_part c + at coarse_part c) + at fine_part c =
         at_same o (λ x. flux_where (is_inner m (block_of m x)) (λ j. finer_flux rules m f axis (not high) right (child m.shape.dims x j)) (children_at m.shape.dims axis (not high)) (own_flux rules m f c axis high (Some x) right))
-          (λ x. (same_part rules m f axis right high c x + coarse_part rules m f axis right high c x) + fine_part rules m f axis right high c x)
-          (λ x is. three_parts rules m f axis right high c x (is_inner m (block_of m x)) (is_node m.shape (is_inner m) (block_of m x)) (inner_is_node m mesh (block_of m x)))
+        (λ x. (same_part rules m f axis right high c x + coarse_part rules m f axis right high c x) + fine_part rules m f axis right high c x)
+        (λ x is. three_parts rules m f axis right high c x (is_inner m (block_of m x)) (is_node m.shape (is_inner m) (block_of m x)) (inner_is_node m mesh (block_of m x)))
         ∙ at_plus o (λ x. same_part rules m f axis right high c x + coarse_part rules m f axis right high c x) (fine_part rules m f axis right high c)
         ∙ ap (λ v. v + at fine_part c) (at_plus o (same_part rules m f axis right high c) (coarse_part rules m f axis right high c)) in
-      let b : Bool = is_leaf m.shape (is_inner m) (block_of m c) in
-      ap (λ v. cond b v 0) split ∙ cond_plus b (at same_part c + at coarse_part c) (at fine_part c) ∙ ap (λ v. v + cond b (at fine_part c) 0) (cond_plus b (at same_part c) (at coarse_part c))
+        let b : Bool = is_leaf m.shape (is_inner m) (block_of m c) in
+        ap (λ v. cond b v 0) split ∙ cond_plus b (at same_part c + at coarse_part c) (at fine_part c) ∙ ap (λ v. v + cond b (at fine_part c) 0) (cond_plus b (at same_part c) (at coarse_part c))
 
 -- a crossing between cells of one level, seen from either side
 same_sides : (rules : Rules) (m : Mesh) → (f axis : ℕ) (right : Bool) (level : ℕ) → axis < 3 → level ≤ 10 →
-  part_on (same_part rules m f axis right true) m axis true level ≡ part_on (same_part rules m f axis right false) m axis false level
+    part_on (same_part rules m f axis right true) m axis true level ≡ part_on (same_part rules m f axis right false) m axis false level
 same_sides rules m f axis right level used few =
-  let s : Shape = cell_lattice m in
-  let leaf : Loc → Bool = λ c. is_leaf m.shape (is_inner m) (block_of m c) in
-  lattice_same s level (counts m (λ c. at_option (across s c axis true) (same_part rules m f axis right true c))) (λ c. at_option (across s c axis true) (λ o. cond (leaf c) (same_part rules m f axis right true c o) 0)) few
+    let s : Shape = cell_lattice m in
+    let leaf : Loc → Bool = λ c. is_leaf m.shape (is_inner m) (block_of m c) in
+    lattice_same s level (counts m (λ c. at_option (across s c axis true) (same_part rules m f axis right true c))) (λ c. at_option (across s c axis true) (λ o. cond (leaf c) (same_part rules m f axis right true c o) 0)) few
     (λ c inside on. cond_at (leaf c) (across s c axis true) (same_part rules m f axis right true c))
-  ∙ crossings s level axis (λ c o. cond (leaf c) (same_part rules m f axis right true c o) 0) used few
-  ∙ lattice_same s level (λ o. at_option (across s o axis false) (λ c. cond (leaf c) (same_part rules m f axis right true c o) 0)) (counts m (λ o. at_option (across s o axis false) (same_part rules m f axis right false o))) few
+    ∙ crossings s level axis (λ c o. cond (leaf c) (same_part rules m f axis right true c o) 0) used few
+    ∙ lattice_same s level (λ o. at_option (across s o axis false) (λ c. cond (leaf c) (same_part rules m f axis right true c o) 0)) (counts m (λ o. at_option (across s o axis false) (same_part rules m f axis right false o))) few
     (λ o inside on. at_same (across s o axis false) (λ c. cond (leaf c) (same_part rules m f axis right true c o) 0) (λ c. cond (leaf o) (same_part rules m f axis right false o c) 0)
-        (λ c meet. cond_swap (leaf c) (leaf o) (own_flux rules m f c axis true (Some o) right)
-          ∙ ap (λ v. cond (leaf o) (cond (leaf c) v 0) 0) (mirrored c o (crossed_level s o axis false c meet)))
-      ∙ sym (cond_at (leaf o) (across s o axis false) (same_part rules m f axis right false o)))
+    (λ c meet. cond_swap (leaf c) (leaf o) (own_flux rules m f c axis true (Some o) right)
+    ∙ ap (λ v. cond (leaf o) (cond (leaf c) v 0) 0) (mirrored c o (crossed_level s o axis false c meet)))
+    ∙ sym (cond_at (leaf o) (across s o axis false) (same_part rules m f axis right false o)))
   where
     mirrored : (c o : Loc) → c.level ≡ o.level → own_flux rules m f c axis true (Some o) right ≡ own_flux rules m f o axis false (Some c) right
     mirrored c o e = by right
@@ -152,7 +154,7 @@ filter_sum p g a (suc n) = step_filter p (filter p (range_with_len (a + 1) n)) g
 
 passing_sum : (p : ℕ → Bool) (g : ℕ → ℕ) (n : ℕ) → sum_over (filter p (range_with_len 0 n)) g ≡ sum_to n (λ j. cond (p j) (g j) 0)
 passing_sum p g n = filter_sum p g 0 n ∙ sum_over-range 0 n (λ j. cond (p j) (g j) 0)
-  ∙ sum_to-same n (λ j. cond (p (0 + j)) (g (0 + j)) 0) (λ j. cond (p j) (g j) 0) (λ j l. let e : 0 + j ≡ j = omega arith in ap (λ t. cond (p t) (g t) 0) e)
+    ∙ sum_to-same n (λ j. cond (p (0 + j)) (g (0 + j)) 0) (λ j. cond (p j) (g j) 0) (λ j l. let e : 0 + j ≡ j = omega arith in ap (λ t. cond (p t) (g t) 0) e)
 
 -- a sum under tests that do not depend on its number
 under : (n : ℕ) (b : Bool) (g : ℕ → ℕ) → cond b (sum_to n g) 0 ≡ sum_to n (λ j. cond b (g j) 0)
@@ -170,31 +172,31 @@ is_at m axis side j = cond side (is_high_half j axis) (not (is_high_half j axis)
 -- what a finer cell counts where it is at the side behind which its parent has a leaf, and its parent lies in an inner node
 abbrev finer_counts : Rules → Mesh → ℕ → ℕ → Bool → Bool → Loc → ℕ
 finer_counts rules m f axis right side d = at_option (cell_across m (parent m.shape.dims d) axis side) (λ c.
-  cond (is_leaf m.shape (is_inner m) (block_of m c)) (cond (is_inner m (block_of m (parent m.shape.dims d))) (cond (is_at m axis side (child_number m.shape.dims d)) (finer_flux rules m f axis side right d) 0) 0) 0)
+    cond (is_leaf m.shape (is_inner m) (block_of m c)) (cond (is_inner m (block_of m (parent m.shape.dims d))) (cond (is_at m axis side (child_number m.shape.dims d)) (finer_flux rules m f axis side right d) 0) 0) 0)
 
 children_count : (rules : Rules) (m : Mesh) → IsMesh m → (f axis : ℕ) (right high : Bool) (o : Loc) →
-  at_option (cell_across m o axis (not high)) (λ c. cond (is_leaf m.shape (is_inner m) (block_of m c)) (fine_part rules m f axis right high c o) 0)
-  ≡ sum_to (parts m.shape.dims) (λ j. finer_counts rules m f axis right (not high) (child m.shape.dims o j))
+    at_option (cell_across m o axis (not high)) (λ c. cond (is_leaf m.shape (is_inner m) (block_of m c)) (fine_part rules m f axis right high c o) 0)
+    ≡ sum_to (parts m.shape.dims) (λ j. finer_counts rules m f axis right (not high) (child m.shape.dims o j))
 children_count rules m mesh f axis right high o =
-  let dims : ℕ = m.shape.dims in
-  let n : ℕ = parts dims in
-  let side : Bool = not high in
-  let x : Option Loc = cell_across m o axis side in
-  let leaf : Loc → Bool = λ c. is_leaf m.shape (is_inner m) (block_of m c) in
-  let flux_of : ℕ → ℕ = λ j. finer_flux rules m f axis side right (child dims o j) in
-  let term : Loc → ℕ → ℕ = λ c j. cond (leaf c) (cond (is_inner m (block_of m o)) (cond (is_at m axis side j) (flux_of j) 0) 0) 0 in
-  at_same x (λ c. cond (leaf c) (fine_part rules m f axis right high c o) 0) (λ c. sum_to n (term c))
+    let dims : ℕ = m.shape.dims in
+    let n : ℕ = parts dims in
+    let side : Bool = not high in
+    let x : Option Loc = cell_across m o axis side in
+    let leaf : Loc → Bool = λ c. is_leaf m.shape (is_inner m) (block_of m c) in
+    let flux_of : ℕ → ℕ = λ j. finer_flux rules m f axis side right (child dims o j) in
+    let term : Loc → ℕ → ℕ = λ c j. cond (leaf c) (cond (is_inner m (block_of m o)) (cond (is_at m axis side j) (flux_of j) 0) 0) 0 in
+    at_same x (λ c. cond (leaf c) (fine_part rules m f axis right high c o) 0) (λ c. sum_to n (term c))
     (λ c meet. ap (λ v. cond (leaf c) (cond (is_inner m (block_of m o)) v 0) 0) (passing_sum (is_at m axis side) flux_of n)
-      ∙ ap (λ v. cond (leaf c) v 0) (under n (is_inner m (block_of m o)) (λ j. cond (is_at m axis side j) (flux_of j) 0))
-      ∙ under n (leaf c) (λ j. cond (is_inner m (block_of m o)) (cond (is_at m axis side j) (flux_of j) 0) 0))
-  ∙ under_option n x term
-  ∙ sum_to-same n (λ j. at_option x (λ c. term c j)) (λ j. finer_counts rules m f axis right side (child dims o j)) (λ j l. sym (each j l))
+    ∙ ap (λ v. cond (leaf c) v 0) (under n (is_inner m (block_of m o)) (λ j. cond (is_at m axis side j) (flux_of j) 0))
+    ∙ under n (leaf c) (λ j. cond (is_inner m (block_of m o)) (cond (is_at m axis side j) (flux_of j) 0) 0))
+    ∙ under_option n x term
+    ∙ sum_to-same n (λ j. at_option x (λ c. term c j)) (λ j. finer_counts rules m f axis right side (child dims o j)) (λ j l. sym (each j l))
   where
     each : (j : ℕ) → j < parts m.shape.dims → finer_counts rules m f axis right (not high) (child m.shape.dims o j)
-      ≡ at_option (cell_across m o axis (not high)) (λ c. cond (is_leaf m.shape (is_inner m) (block_of m c)) (cond (is_inner m (block_of m o)) (cond (is_at m axis (not high) j) (finer_flux rules m f axis (not high) right (child m.shape.dims o j)) 0) 0) 0)
+        ≡ at_option (cell_across m o axis (not high)) (λ c. cond (is_leaf m.shape (is_inner m) (block_of m c)) (cond (is_inner m (block_of m o)) (cond (is_at m axis (not high) j) (finer_flux rules m f axis (not high) right (child m.shape.dims o j)) 0) 0) 0)
     each j l =
-      ap (λ (v : Loc). at_option (cell_across m v axis (not high)) (λ c. cond (is_leaf m.shape (is_inner m) (block_of m c)) (cond (is_inner m (block_of m v)) (cond (is_at m axis (not high) (child_number m.shape.dims (child m.shape.dims o j))) (finer_flux rules m f axis (not high) right (child m.shape.dims o j)) 0) 0) 0)) (parent-child m.shape.dims o j)
-      ∙ ap (λ v. at_option (cell_across m o axis (not high)) (λ c. cond (is_leaf m.shape (is_inner m) (block_of m c)) (cond (is_inner m (block_of m o)) (cond (is_at m axis (not high) v) (finer_flux rules m f axis (not high) right (child m.shape.dims o j)) 0) 0) 0)) (number_of_child m.shape.dims o j mesh.shape.most mesh.shape.least l)
+        ap (λ (v : Loc). at_option (cell_across m v axis (not high)) (λ c. cond (is_leaf m.shape (is_inner m) (block_of m c)) (cond (is_inner m (block_of m v)) (cond (is_at m axis (not high) (child_number m.shape.dims (child m.shape.dims o j))) (finer_flux rules m f axis (not high) right (child m.shape.dims o j)) 0) 0) 0)) (parent-child m.shape.dims o j)
+        ∙ ap (λ v. at_option (cell_across m o axis (not high)) (λ c. cond (is_leaf m.shape (is_inner m) (block_of m c)) (cond (is_inner m (block_of m o)) (cond (is_at m axis (not high) v) (finer_flux rules m f axis (not high) right (child m.shape.dims o j)) 0) 0) 0)) (number_of_child m.shape.dims o j mesh.shape.most mesh.shape.least l)
 
 -- nothing counts where the half is the other one
 zero_at : (o : Option Loc) (a : Loc → Bool) (b : Bool) (x : ℕ) → at_option o (λ c. cond (a c) (cond b (cond false x 0) 0) 0) ≡ 0
@@ -242,59 +244,60 @@ record Crosses (m : Mesh) (axis : ℕ) (side : Bool) (d : Loc) : Type 0 where
 
 -- from the half at the side
 outer_counts : (rules : Rules) (m : Mesh) (f axis : ℕ) (right side : Bool) (d e : Loc) → Crosses m axis side d → cell_across m d axis side ≡ Some e → is_high_half (child_number m.shape.dims d) axis ≡ side →
-  at_option (cell_across m (parent m.shape.dims d) axis side) (λ c. cond (is_leaf m.shape (is_inner m) (block_of m c)) (cond (is_inner m (block_of m (parent m.shape.dims d))) (cond true (finer_flux rules m f axis side right d) 0) 0) 0)
-  ≡ cond (is_leaf m.shape (is_inner m) (block_of m d)) (coarse_part rules m f axis right side d e) 0
+    at_option (cell_across m (parent m.shape.dims d) axis side) (λ c. cond (is_leaf m.shape (is_inner m) (block_of m c)) (cond (is_inner m (block_of m (parent m.shape.dims d))) (cond true (finer_flux rules m f axis side right d) 0) 0) 0)
+    ≡ cond (is_leaf m.shape (is_inner m) (block_of m d)) (coarse_part rules m f axis right side d e) 0
 outer_counts rules m f axis right side d e x meet half =
-  let s : Shape = cell_lattice m in
-  let dims : ℕ = m.shape.dims in
-  let least = x.mesh.shape.least in
-  let most = x.mesh.shape.most in
-  let deep = x.deep in
-  let level = crossed_level s d axis side e meet in
-  let p = parity (axis_of d axis) side (sym (half-is dims d axis least most x.used) ∙ half) in
-  let up = across-parent s most d e axis side x.used x.inside deep p meet in
-  let touch = across-touches s d e axis side x.inside (omega arith) meet in
-  let touch_up = across-touches s (parent dims d) (parent dims e) axis side (parent_inside s d x.inside deep) (omega arith) up.0 in
-  let bd : Loc = block_of m d in
-  let be : Loc = block_of m e in
-  let pd : Loc = block_of m (parent dims d) in
-  let pe : Loc = block_of m (parent dims e) in
-  let flux_is : finer_flux rules m f axis side right d ≡ own_flux rules m f d axis side (Some e) right = ap (λ (v : Option Loc). own_flux rules m f d axis side v right) meet in
-  let node_d : is_node m.shape (is_inner m) bd ≡ is_inner m pd = node_is m bd deep ∙ ap (is_inner m) (sym (block_parent m d)) in
-  let node_e : is_node m.shape (is_inner m) be ≡ is_inner m pe = node_is m be (omega arith) ∙ ap (is_inner m) (sym (block_parent m e)) in
-  let balanced_e : is_inner m bd ≡ true → is_inner m pe ≡ true = λ h. sym node_e ∙ x.mesh.balanced bd be h (block_inside m x.mesh e touch.inside) (blocks_touch m x.mesh d e touch.touching) in
-  let balanced_pe : is_inner m pd ≡ true → is_node m.shape (is_inner m) pe ≡ true = λ h. x.mesh.balanced pd pe h (block_inside m x.mesh (parent dims e) touch_up.inside) (blocks_touch m x.mesh (parent dims d) (parent dims e) touch_up.touching) in
-  let value : ℕ = own_flux rules m f d axis side (Some e) right in
-  ap (λ (v : Option Loc). at_option v (λ c. cond (is_leaf m.shape (is_inner m) (block_of m c)) (cond (is_inner m pd) (finer_flux rules m f axis side right d) 0) 0)) up.0
-  ∙ ap (λ v. cond (is_leaf m.shape (is_inner m) pe) (cond (is_inner m pd) v 0) 0) flux_is
-  ∙ crossing_tests (is_node m.shape (is_inner m) pe) (is_inner m pe) (is_inner m pd) (is_inner m bd) value balanced_e balanced_pe
-  ∙ ap (λ (b : Bool). cond (b && not (is_inner m bd)) (cond (is_inner m pe) 0 value) 0) (sym node_d)
-  ∙ ap (λ (b : Bool). cond (is_leaf m.shape (is_inner m) bd) (cond b 0 value) 0) (sym node_e)
+    let s : Shape = cell_lattice m in
+    let dims : ℕ = m.shape.dims in
+    let least = x.mesh.shape.least in
+    let most = x.mesh.shape.most in
+    let deep = x.deep in
+    let level = crossed_level s d axis side e meet in
+    let p = parity (axis_of d axis) side (sym (half-is dims d axis least most x.used) ∙ half) in
+    let up = across-parent s most d e axis side x.used x.inside deep p meet in
+    let touch = across-touches s d e axis side x.inside (omega arith) meet in
+    let touch_up = across-touches s (parent dims d) (parent dims e) axis side (parent_inside s d x.inside deep) (omega arith) up.0 in
+    let bd : Loc = block_of m d in
+    let be : Loc = block_of m e in
+    let pd : Loc = block_of m (parent dims d) in
+    let pe : Loc = block_of m (parent dims e) in
+    let flux_is : finer_flux rules m f axis side right d ≡ own_flux rules m f d axis side (Some e) right = ap (λ (v : Option Loc). own_flux rules m f d axis side v right) meet in
+    let node_d : is_node m.shape (is_inner m) bd ≡ is_inner m pd = node_is m bd deep ∙ ap (is_inner m) (sym (block_parent m d)) in
+    let node_e : is_node m.shape (is_inner m) be ≡ is_inner m pe = node_is m be (omega arith) ∙ ap (is_inner m) (sym (block_parent m e)) in
+    let balanced_e : is_inner m bd ≡ true → is_inner m pe ≡ true = λ h. sym node_e ∙ x.mesh.balanced bd be h (block_inside m x.mesh e touch.inside) (blocks_touch m x.mesh d e touch.touching) in
+    let balanced_pe : is_inner m pd ≡ true → is_node m.shape (is_inner m) pe ≡ true = λ h. x.mesh.balanced pd pe h (block_inside m x.mesh (parent dims e) touch_up.inside) (blocks_touch m x.mesh (parent dims d) (parent dims e) touch_up.touching) in
+    let value : ℕ = own_flux rules m f d axis side (Some e) right in
+    ap (λ (v : Option Loc). at_option v (λ c. cond (is_leaf m.shape (is_inner m) (block_of m c)) (cond (is_inner m pd) (finer_flux rules m f axis side right d) 0) 0)) up.0
+    ∙ ap (λ v. cond (is_leaf m.shape (is_inner m) pe) (cond (is_inner m pd) v 0) 0) flux_is
+    ∙ crossing_tests (is_node m.shape (is_inner m) pe) (is_inner m pe) (is_inner m pd) (is_inner m bd) value balanced_e balanced_pe
+    ∙ ap (λ (b : Bool). cond (b && not (is_inner m bd)) (cond (is_inner m pe) 0 value) 0) (sym node_d)
+    ∙ ap (λ (b : Bool). cond (is_leaf m.shape (is_inner m) bd) (cond b 0 value) 0) (sym node_e)
 
 -- from the other half
 inner_counts : (rules : Rules) (m : Mesh) (f axis : ℕ) (right side : Bool) (d e : Loc) → Crosses m axis side d → cell_across m d axis side ≡ Some e → is_high_half (child_number m.shape.dims d) axis ≡ not side →
-  cond (is_leaf m.shape (is_inner m) (block_of m d)) (coarse_part rules m f axis right side d e) 0 ≡ 0
+    cond (is_leaf m.shape (is_inner m) (block_of m d)) (coarse_part rules m f axis right side d e) 0 ≡ 0
 inner_counts rules m f axis right side d e x meet half =
-  let s : Shape = cell_lattice m in
-  let dims : ℕ = m.shape.dims in
-  let least = x.mesh.shape.least in
-  let most = x.mesh.shape.most in
-  let deep = x.deep in
-  let level = crossed_level s d axis side e meet in
-  let p = parity_other (axis_of d axis) side (sym (half-is dims d axis least most x.used) ∙ half) in
-  let (o, crosses, siblings) = across-sibling s most d axis side x.used x.inside deep p in
-  let is : o ≡ e = some_is o e (sym crosses ∙ meet) in
-  let parents : parent dims e ≡ parent dims d = ap (parent dims) (sym is) ∙ siblings in
-  let bd : Loc = block_of m d in
-  let be : Loc = block_of m e in
-  let node_d = node_is m bd deep in
-  let nodes : is_node m.shape (is_inner m) be ≡ is_node m.shape (is_inner m) bd =
+    let s : Shape = cell_lattice m in
+    let dims : ℕ = m.shape.dims in
+    let least = x.mesh.shape.least in
+    let most = x.mesh.shape.most in
+    let deep = x.deep in
+    let level = crossed_level s d axis side e meet in
+    let p = parity_other (axis_of d axis) side (sym (half-is dims d axis least most x.used) ∙ half) in
+    let (o, crosses, siblings) = across-sibling s most d axis side x.used x.inside deep p in
+    let is : o ≡ e = some_is o e (sym crosses ∙ meet) in
+    let parents : parent dims e ≡ parent dims d = ap (parent dims) (sym is) ∙ siblings in
+    let bd : Loc = block_of m d in
+    let be : Loc = block_of m e in
+    let node_d = node_is m bd deep in
+    let nodes : is_node m.shape (is_inner m) be ≡ is_node m.shape (is_inner m) bd =
     node_is m be (omega arith) ∙ ap (is_inner m) (sym (block_parent m e) ∙ ap (block_of m) parents ∙ block_parent m d) ∙ sym node_d in
-  let value : ℕ = own_flux rules m f d axis side (Some e) right in
-  ap (λ (b : Bool). cond (is_leaf m.shape (is_inner m) bd) (cond b 0 value) 0) nodes ∙ none (is_node m.shape (is_inner m) bd) (is_inner m bd) value
+    let value : ℕ = own_flux rules m f d axis side (Some e) right in
+    ap (λ (b : Bool). cond (is_leaf m.shape (is_inner m) bd) (cond b 0 value) 0) nodes ∙ none (is_node m.shape (is_inner m) bd) (is_inner m bd) value
   where
     some_is : (x y : Loc) → Some x ≡ Some y → x ≡ y
     some_is x y h = cc
+
     none : (n i : Bool) (v : ℕ) → cond (n && not i) (cond n 0 v) 0 ≡ 0
     none true true v = refl
     none true false v = refl
@@ -302,97 +305,102 @@ inner_counts rules m f axis right side d e x meet half =
 
 -- what a finer cell counts is what it counts as a leaf beside a coarser one
 finer_is_coarser : (rules : Rules) (m : Mesh) (f axis : ℕ) (right side : Bool) (d : Loc) → Crosses m axis side d →
-  finer_counts rules m f axis right side d ≡ counts m (λ x. at_option (cell_across m x axis side) (coarse_part rules m f axis right side x)) d
+    finer_counts rules m f axis right side d ≡ counts m (λ x. at_option (cell_across m x axis side) (coarse_part rules m f axis right side x)) d
 finer_is_coarser rules m f axis right side d x = by (cell_across m d axis side) refl (is_at m axis side (child_number m.shape.dims d)) refl
   where
     leaf : Loc → Bool
     leaf c = is_leaf m.shape (is_inner m) (block_of m c)
+
     up : Option Loc
     up = cell_across m (parent m.shape.dims d) axis side
+
     none_beyond : is_at m axis side (child_number m.shape.dims d) ≡ true → cell_across m d axis side ≡ None → (o : Option Loc) → cell_across m (parent m.shape.dims d) axis side ≡ o → up ≡ None
     none_beyond h none None e = e
     none_beyond h none (Some c) e =
-      let half = half_passes (is_high_half (child_number m.shape.dims d) axis) side h in
-      let p = parity (axis_of d axis) side (sym (half-is m.shape.dims d axis x.mesh.shape.least x.mesh.shape.most x.used) ∙ half) in
-      let (y, crosses, top) = across-half (cell_lattice m) x.mesh.shape.most d c axis side x.used x.inside x.deep p e in
-      absurd (clash y (sym none ∙ crosses))
+        let half = half_passes (is_high_half (child_number m.shape.dims d) axis) side h in
+        let p = parity (axis_of d axis) side (sym (half-is m.shape.dims d axis x.mesh.shape.least x.mesh.shape.most x.used) ∙ half) in
+        let (y, crosses, top) = across-half (cell_lattice m) x.mesh.shape.most d c axis side x.used x.inside x.deep p e in
+        absurd (clash y (sym none ∙ crosses))
       where
         clash : (y : Loc) → None ≡ Some y → ⊥
         clash y h = cc
+
     by : (o : Option Loc) → cell_across m d axis side ≡ o → (b : Bool) → is_at m axis side (child_number m.shape.dims d) ≡ b →
-      finer_counts rules m f axis right side d ≡ counts m (λ x. at_option (cell_across m x axis side) (coarse_part rules m f axis right side x)) d
+        finer_counts rules m f axis right side d ≡ counts m (λ x. at_option (cell_across m x axis side) (coarse_part rules m f axis right side x)) d
     by None meet true half =
-      ap (λ (v : Option Loc). at_option v (λ c. cond (leaf c) (cond (is_inner m (block_of m (parent m.shape.dims d))) (cond (is_at m axis side (child_number m.shape.dims d)) (finer_flux rules m f axis side right d) 0) 0) 0)) (none_beyond half meet up refl)
-      ∙ sym (ap (λ (v : Option Loc). cond (leaf d) (at_option v (coarse_part rules m f axis right side d)) 0) meet ∙ zero_under (leaf d) 0 refl)
+        ap (λ (v : Option Loc). at_option v (λ c. cond (leaf c) (cond (is_inner m (block_of m (parent m.shape.dims d))) (cond (is_at m axis side (child_number m.shape.dims d)) (finer_flux rules m f axis side right d) 0) 0) 0)) (none_beyond half meet up refl)
+        ∙ sym (ap (λ (v : Option Loc). cond (leaf d) (at_option v (coarse_part rules m f axis right side d)) 0) meet ∙ zero_under (leaf d) 0 refl)
     by None meet false half =
-      ap (λ (b : Bool). at_option up (λ c. cond (leaf c) (cond (is_inner m (block_of m (parent m.shape.dims d))) (cond b (finer_flux rules m f axis side right d) 0) 0) 0)) half
-      ∙ zero_at up leaf (is_inner m (block_of m (parent m.shape.dims d))) (finer_flux rules m f axis side right d)
-      ∙ sym (ap (λ (v : Option Loc). cond (leaf d) (at_option v (coarse_part rules m f axis right side d)) 0) meet ∙ zero_under (leaf d) 0 refl)
+        ap (λ (b : Bool). at_option up (λ c. cond (leaf c) (cond (is_inner m (block_of m (parent m.shape.dims d))) (cond b (finer_flux rules m f axis side right d) 0) 0) 0)) half
+        ∙ zero_at up leaf (is_inner m (block_of m (parent m.shape.dims d))) (finer_flux rules m f axis side right d)
+        ∙ sym (ap (λ (v : Option Loc). cond (leaf d) (at_option v (coarse_part rules m f axis right side d)) 0) meet ∙ zero_under (leaf d) 0 refl)
     by (Some e) meet true half =
-      ap (λ (b : Bool). at_option up (λ c. cond (leaf c) (cond (is_inner m (block_of m (parent m.shape.dims d))) (cond b (finer_flux rules m f axis side right d) 0) 0) 0)) half
-      ∙ outer_counts rules m f axis right side d e x meet (half_passes (is_high_half (child_number m.shape.dims d) axis) side half)
-      ∙ sym (ap (λ (v : Option Loc). cond (leaf d) (at_option v (coarse_part rules m f axis right side d)) 0) meet)
+        ap (λ (b : Bool). at_option up (λ c. cond (leaf c) (cond (is_inner m (block_of m (parent m.shape.dims d))) (cond b (finer_flux rules m f axis side right d) 0) 0) 0)) half
+        ∙ outer_counts rules m f axis right side d e x meet (half_passes (is_high_half (child_number m.shape.dims d) axis) side half)
+        ∙ sym (ap (λ (v : Option Loc). cond (leaf d) (at_option v (coarse_part rules m f axis right side d)) 0) meet)
     by (Some e) meet false half =
-      ap (λ (b : Bool). at_option up (λ c. cond (leaf c) (cond (is_inner m (block_of m (parent m.shape.dims d))) (cond b (finer_flux rules m f axis side right d) 0) 0) 0)) half
-      ∙ zero_at up leaf (is_inner m (block_of m (parent m.shape.dims d))) (finer_flux rules m f axis side right d)
-      ∙ sym (ap (λ (v : Option Loc). cond (leaf d) (at_option v (coarse_part rules m f axis right side d)) 0) meet
+        ap (λ (b : Bool). at_option up (λ c. cond (leaf c) (cond (is_inner m (block_of m (parent m.shape.dims d))) (cond b (finer_flux rules m f axis side right d) 0) 0) 0)) half
+        ∙ zero_at up leaf (is_inner m (block_of m (parent m.shape.dims d))) (finer_flux rules m f axis side right d)
+        ∙ sym (ap (λ (v : Option Loc). cond (leaf d) (at_option v (coarse_part rules m f axis right side d)) 0) meet
         ∙ inner_counts rules m f axis right side d e x meet (half_false (is_high_half (child_number m.shape.dims d) axis) side half))
 
 -- what passes finer faces at one level passes them to coarser cells at the next
 finer_sides : (rules : Rules) (m : Mesh) → IsMesh m → (f axis : ℕ) (right high : Bool) (level : ℕ) → axis < m.shape.dims → level < 10 →
-  part_on (fine_part rules m f axis right high) m axis high level ≡ part_on (coarse_part rules m f axis right (not high)) m axis (not high) (level + 1)
+    part_on (fine_part rules m f axis right high) m axis high level ≡ part_on (coarse_part rules m f axis right (not high)) m axis (not high) (level + 1)
 finer_sides rules m mesh f axis right high level used few =
-  let s : Shape = cell_lattice m in
-  let most = mesh.shape.most in
-  let leaf : Loc → Bool = λ c. is_leaf m.shape (is_inner m) (block_of m c) in
-  lattice_same s level (counts m (λ c. at_option (across s c axis high) (fine_part rules m f axis right high c))) (λ c. at_option (across s c axis high) (λ o. cond (leaf c) (fine_part rules m f axis right high c o) 0)) (omega arith)
+    let s : Shape = cell_lattice m in
+    let most = mesh.shape.most in
+    let leaf : Loc → Bool = λ c. is_leaf m.shape (is_inner m) (block_of m c) in
+    lattice_same s level (counts m (λ c. at_option (across s c axis high) (fine_part rules m f axis right high c))) (λ c. at_option (across s c axis high) (λ o. cond (leaf c) (fine_part rules m f axis right high c o) 0)) (omega arith)
     (λ c inside on. cond_at (leaf c) (across s c axis high) (fine_part rules m f axis right high c))
-  ∙ crossed_from s level axis high (λ c o. cond (leaf c) (fine_part rules m f axis right high c o) 0) (omega arith) (omega arith)
-  ∙ lattice_same s level (λ o. at_option (across s o axis (not high)) (λ c. cond (leaf c) (fine_part rules m f axis right high c o) 0)) (λ o. sum_to (parts m.shape.dims) (λ j. finer_counts rules m f axis right (not high) (child m.shape.dims o j))) (omega arith)
+    ∙ crossed_from s level axis high (λ c o. cond (leaf c) (fine_part rules m f axis right high c o) 0) (omega arith) (omega arith)
+    ∙ lattice_same s level (λ o. at_option (across s o axis (not high)) (λ c. cond (leaf c) (fine_part rules m f axis right high c o) 0)) (λ o. sum_to (parts m.shape.dims) (λ j. finer_counts rules m f axis right (not high) (child m.shape.dims o j))) (omega arith)
     (λ o inside on. children_count rules m mesh f axis right high o)
-  ∙ finer_lattice s mesh.shape.least mesh.shape.most level (finer_counts rules m f axis right (not high))
-  ∙ lattice_same s (level + 1) (finer_counts rules m f axis right (not high)) (counts m (λ x. at_option (cell_across m x axis (not high)) (coarse_part rules m f axis right (not high) x))) (omega arith)
+    ∙ finer_lattice s mesh.shape.least mesh.shape.most level (finer_counts rules m f axis right (not high))
+    ∙ lattice_same s (level + 1) (finer_counts rules m f axis right (not high)) (counts m (λ x. at_option (cell_across m x axis (not high)) (coarse_part rules m f axis right (not high) x))) (omega arith)
     (λ d inside on. finer_is_coarser rules m f axis right (not high) d (record { mesh = mesh; used = used; inside = inside; deep = omega arith }))
 
 -- no finer faces lie below the finest level, and no root lies beside a coarser block
 no_finer : (rules : Rules) (m : Mesh) → IsMesh m → (f axis : ℕ) (right high : Bool) → axis < 3 → part_on (fine_part rules m f axis right high) m axis high 10 ≡ 0
 no_finer rules m mesh f axis right high used =
-  lattice_same (cell_lattice m) 10 (counts m (λ c. at_option (cell_across m c axis high) (fine_part rules m f axis right high c))) (λ c. 0) (omega arith)
+    lattice_same (cell_lattice m) 10 (counts m (λ c. at_option (cell_across m c axis high) (fine_part rules m f axis right high c))) (λ c. 0) (omega arith)
     (λ c inside on. zero_under (is_leaf m.shape (is_inner m) (block_of m c)) (at_option (cell_across m c axis high) (fine_part rules m f axis right high c))
-      (at_same (cell_across m c axis high) (fine_part rules m f axis right high c) (λ o. 0) (λ o meet. outer c o on (crossed_level (cell_lattice m) c axis high o meet)) ∙ nothing (cell_across m c axis high)))
-  ∙ lattice_nothing (cell_lattice m) 10
+    (at_same (cell_across m c axis high) (fine_part rules m f axis right high c) (λ o. 0) (λ o meet. outer c o on (crossed_level (cell_lattice m) c axis high o meet)) ∙ nothing (cell_across m c axis high)))
+    ∙ lattice_nothing (cell_lattice m) 10
   where
     nothing : (o : Option Loc) → at_option o (λ x. 0) ≡ 0
     nothing None = refl
     nothing (Some x) = refl
+
     outer : (c o : Loc) → c.level ≡ 10 → o.level ≡ c.level → fine_part rules m f axis right high c o ≡ 0
     outer c o e g = ap (λ (b : Bool). cond b (fine_sum rules m f axis right high o) 0) (fails (is_inner m (block_of m o)) (λ h. let a = mesh.tree.above_finest (block_of m o) h in omega arith))
 
 no_coarser : (rules : Rules) (m : Mesh) (f axis : ℕ) (right high : Bool) → axis < 3 → part_on (coarse_part rules m f axis right high) m axis high 0 ≡ 0
 no_coarser rules m f axis right high used =
-  lattice_same (cell_lattice m) 0 (counts m (λ c. at_option (cell_across m c axis high) (coarse_part rules m f axis right high c))) (λ c. 0) (omega arith)
+    lattice_same (cell_lattice m) 0 (counts m (λ c. at_option (cell_across m c axis high) (coarse_part rules m f axis right high c))) (λ c. 0) (omega arith)
     (λ c inside on. zero_under (is_leaf m.shape (is_inner m) (block_of m c)) (at_option (cell_across m c axis high) (coarse_part rules m f axis right high c))
-      (at_same (cell_across m c axis high) (coarse_part rules m f axis right high c) (λ o. 0) (λ o meet. root c o (crossed_level (cell_lattice m) c axis high o meet ∙ on)) ∙ nothing (cell_across m c axis high)))
-  ∙ lattice_nothing (cell_lattice m) 0
+    (at_same (cell_across m c axis high) (coarse_part rules m f axis right high c) (λ o. 0) (λ o meet. root c o (crossed_level (cell_lattice m) c axis high o meet ∙ on)) ∙ nothing (cell_across m c axis high)))
+    ∙ lattice_nothing (cell_lattice m) 0
   where
     nothing : (o : Option Loc) → at_option o (λ x. 0) ≡ 0
     nothing None = refl
     nothing (Some x) = refl
+
     root : (c o : Loc) → o.level ≡ 0 → coarse_part rules m f axis right high c o ≡ 0
     root c o e = ap (λ (b : Bool). cond b 0 (own_flux rules m f c axis high (Some o) right)) (root_node m.shape (is_inner m) (block_of m o) e)
 
 -- all finer faces are all faces of finer cells to coarser ones
 all_finer : (rules : Rules) (m : Mesh) → IsMesh m → (f axis : ℕ) (right high : Bool) → axis < m.shape.dims → (n : ℕ) → n ≡ 10 →
-  sum_to (suc n) (λ level. part_on (fine_part rules m f axis right high) m axis high level) ≡ sum_to (suc n) (λ level. part_on (coarse_part rules m f axis right (not high)) m axis (not high) level)
+    sum_to (suc n) (λ level. part_on (fine_part rules m f axis right high) m axis high level) ≡ sum_to (suc n) (λ level. part_on (coarse_part rules m f axis right (not high)) m axis (not high) level)
 all_finer rules m mesh f axis right high used n ten =
-  let most = mesh.shape.most in
-  let fine_at : ℕ → ℕ = λ level. part_on (fine_part rules m f axis right high) m axis high level in
-  let coarse_at : ℕ → ℕ = λ level. part_on (coarse_part rules m f axis right (not high)) m axis (not high) level in
-  let last : fine_at n ≡ 0 = ap fine_at ten ∙ no_finer rules m mesh f axis right high (omega arith) in
-  let first : coarse_at 0 ≡ 0 = no_coarser rules m f axis right (not high) (omega arith) in
-  let each = sum_to-same n fine_at (λ level. coarse_at (suc level)) (λ level l. finer_sides rules m mesh f axis right high level used (omega arith) ∙ ap coarse_at (add-one level)) in
-  let front = sum_first n coarse_at in
-  omega arith
+    let most = mesh.shape.most in
+    let fine_at : ℕ → ℕ = λ level. part_on (fine_part rules m f axis right high) m axis high level in
+    let coarse_at : ℕ → ℕ = λ level. part_on (coarse_part rules m f axis right (not high)) m axis (not high) level in
+    let last : fine_at n ≡ 0 = ap fine_at ten ∙ no_finer rules m mesh f axis right high (omega arith) in
+    let first : coarse_at 0 ≡ 0 = no_coarser rules m f axis right (not high) (omega arith) in
+    let each = sum_to-same n fine_at (λ level. coarse_at (suc level)) (λ level l. finer_sides rules m mesh f axis right high level used (omega arith) ∙ ap coarse_at (add-one level)) in
+    let front = sum_first n coarse_at in
+    omega arith
 
 balanced_sums : (iu id su cu fu sd cd fd pu pd : ℕ) → iu ≡ pu + fu → pu ≡ su + cu → id ≡ pd + fd → pd ≡ sd + cd → su ≡ sd → fu ≡ cd → fd ≡ cu → iu ≡ id
 balanced_sums iu id su cu fu sd cd fd pu pd a b c d e f g = omega arith
@@ -400,18 +408,18 @@ balanced_sums iu id su cu fu sd cd fd pu pd a b c d e f g = omega arith
 -- what passes the low sides from within the mesh is what passes the high sides
 pub interior_balances : (rules : Rules) (m : Mesh) → IsMesh m → (f axis : ℕ) (right : Bool) → axis < m.shape.dims → sum_cells m (interior rules m f axis right true) ≡ sum_cells m (interior rules m f axis right false)
 interior_balances rules m mesh f axis right used =
-  let most = mesh.shape.most in
-  let by_level = λ (high : Bool). cells_by_level m mesh (interior rules m f axis right high) in
-  let parts_of = λ (high : Bool). sum_to-same 11 (λ i. lattice (cell_lattice m) i (counts m (interior rules m f axis right high)))
+    let most = mesh.shape.most in
+    let by_level = λ (high : Bool). cells_by_level m mesh (interior rules m f axis right high) in
+    let parts_of = λ (high : Bool). sum_to-same 11 (λ i. lattice (cell_lattice m) i (counts m (interior rules m f axis right high)))
     (λ i. part_on (same_part rules m f axis right high) m axis high i + part_on (coarse_part rules m f axis right high) m axis high i + part_on (fine_part rules m f axis right high) m axis high i)
     (λ i l. level_parts rules m mesh f axis right high i (omega arith)) in
-  let sums = λ (high : Bool). sum_plus 11 (λ i. part_on (same_part rules m f axis right high) m axis high i + part_on (coarse_part rules m f axis right high) m axis high i) (λ i. part_on (fine_part rules m f axis right high) m axis high i) in
-  let more = λ (high : Bool). sum_plus 11 (λ i. part_on (same_part rules m f axis right high) m axis high i) (λ i. part_on (coarse_part rules m f axis right high) m axis high i) in
-  let sames = sum_to-same 11 (λ i. part_on (same_part rules m f axis right true) m axis true i) (λ i. part_on (same_part rules m f axis right false) m axis false i) (λ i l. same_sides rules m f axis right i (omega arith) (omega arith)) in
-  let up = all_finer rules m mesh f axis right true used 10 refl in
-  let down = all_finer rules m mesh f axis right false used 10 refl in
-  let up_is = by_level true ∙ parts_of true ∙ sums true in
-  let down_is = by_level false ∙ parts_of false ∙ sums false in
-  let more_up = more true in
-  let more_down = more false in
-  balanced_sums _ _ _ _ _ _ _ _ _ _ up_is more_up down_is more_down sames up down
+    let sums = λ (high : Bool). sum_plus 11 (λ i. part_on (same_part rules m f axis right high) m axis high i + part_on (coarse_part rules m f axis right high) m axis high i) (λ i. part_on (fine_part rules m f axis right high) m axis high i) in
+    let more = λ (high : Bool). sum_plus 11 (λ i. part_on (same_part rules m f axis right high) m axis high i) (λ i. part_on (coarse_part rules m f axis right high) m axis high i) in
+    let sames = sum_to-same 11 (λ i. part_on (same_part rules m f axis right true) m axis true i) (λ i. part_on (same_part rules m f axis right false) m axis false i) (λ i l. same_sides rules m f axis right i (omega arith) (omega arith)) in
+    let up = all_finer rules m mesh f axis right true used 10 refl in
+    let down = all_finer rules m mesh f axis right false used 10 refl in
+    let up_is = by_level true ∙ parts_of true ∙ sums true in
+    let down_is = by_level false ∙ parts_of false ∙ sums false in
+    let more_up = more true in
+    let more_down = more false in
+    balanced_sums _ _ _ _ _ _ _ _ _ _ up_is more_up down_is more_down sames up down

@@ -2,6 +2,7 @@
 
 ghost use Rattle.dense_model.specs.LookLaws.{LookLaw};
 ghost use Rattle.dense_model.specs.PayLaws.{PaysAtMost};
+ghost use Rattle.dense_model.specs.StageLaws.{StageConserves};
 
 /// The look is what is stored on a leaf, the sum over the children one level finer, and the share of the parent's
 /// total one level coarser.
@@ -13,4 +14,10 @@ pub fn look_law()
 /// denominator: no total falls below zero.
 pub fn pay_law()
     ensures { PaysAtMost }
+{}
+
+/// On any balanced tree a stage changes a field's total by what comes in and goes out through the faces of the domain
+/// alone, where the field's rates fit.
+pub fn conservation_law()
+    ensures { StageConserves }
 {}
