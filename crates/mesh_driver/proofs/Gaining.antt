@@ -1,0 +1,53 @@
+-- Files that are gained one after another, and what is there where writing stops.
+use Rattle.std.proofs.Common.{◌≡◌, List, [], ◌∷◌, ◌++◌, Option, Some, None, IsTrue, refl, sym, ◌∙◌, ap, subst, inl, inr, append_assoc}
+use Rattle.std.specs.Option.{option_map, ForSome}
+use Rattle.std.proofs.lemmas.List.Elements.{All-append}
+use Rattle.mesh_outside.specs.declared.files.Gained.{Gained}
+use Rattle.mesh_outside.specs.Gained.{IsClosed, Gains, IsCut, GainsCut}
+
+-- files that are gained one list after another
+pub gains_more : (a b c : Option (List Gained)) (xs ys : List Gained) → Gains a b xs → Gains b c ys → Gains a c (xs ++ ys)
+gains_more None b c xs ys first second = second ∙ ap (option_map (λ before. before ++ ys)) first
+gains_more (Some w) b c xs ys first second = second ∙ ap (option_map (λ before. before ++ ys)) first ∙ ap Some (append_assoc w xs ys)
+
+-- no file is unfinished behind finished ones
+pub closed_after : (a b : Option (List Gained)) (xs : List Gained) → Gains a b xs → ForSome a IsClosed → IsClosed xs → ForSome b IsClosed
+closed_after None b xs gains closed whole = λ w is. absurd (none_is_no_list w (sym gains ∙ is))
+  where
+    none_is_no_list : (w : List Gained) → ◌≡◌ {A = Option (List Gained)} None (Some w) → ⊥
+    none_is_no_list w e = cc
+closed_after (Some v) b xs gains closed whole = λ w is.
+    let same : ◌≡◌ {A = Option (List Gained)} (Some (v ++ xs)) (Some w) = sym gains ∙ is in
+    let joined : v ++ xs ≡ w = cc in
+    subst IsClosed joined (All-append (λ file. IsTrue file.whole) v xs (closed v refl) whole)
+
+-- a cut of some files, behind others before them and with others after them
+pub cut_within : (files xs ys others cut : List Gained) → files ≡ (xs ++ ys) ++ others → IsCut ys cut → IsCut files (xs ++ cut)
+cut_within files xs ys others cut all (inl first) = inl (record {
+  others = first.others ++ others;
+  together = append_assoc xs cut (first.others ++ others)
+      ∙ ap (λ w. xs ++ w) (sym (append_assoc cut first.others others) ∙ ap (λ w. w ++ others) first.together)
+      ∙ sym (append_assoc xs ys others)
+      ∙ sym all;
+})
+cut_within files xs ys others cut all (inr stopped) = inr (record {
+  front = xs ++ stopped.front;
+  file = stopped.file;
+  part = stopped.part;
+  others = stopped.others ++ others;
+  is_part = stopped.is_part;
+  gained_are = ap (λ w. xs ++ w) stopped.gained_are ∙ sym (append_assoc xs stopped.front (stopped.part ∷ []));
+  files_are = all
+      ∙ ap (λ w. (xs ++ w) ++ others) stopped.files_are
+      ∙ append_assoc xs (stopped.front ++ stopped.file ∷ stopped.others) others
+      ∙ ap (λ w. xs ++ w) (append_assoc stopped.front (stopped.file ∷ stopped.others) others)
+      ∙ sym (append_assoc xs stopped.front (stopped.file ∷ (stopped.others ++ others)));
+})
+
+-- writing that stops among later files
+pub gains_cut_more : (a b c : Option (List Gained)) (files xs ys others : List Gained) → files ≡ (xs ++ ys) ++ others → Gains a b xs → GainsCut b c ys → GainsCut a c files
+gains_cut_more a b c files xs ys others all first stopped = record {
+  cut = xs ++ stopped.cut;
+  is_cut = cut_within files xs ys others stopped.cut all stopped.is_cut;
+  gained = gains_more a b c xs stopped.cut first stopped.gained;
+}

@@ -1,0 +1,113 @@
+ghost use Rattle.std.specs.Prelude.{◌≡◌, ℕ, ◌≤◌, ◌↔◌, List, length, Some, None, Err, IsOk, OnOk, OnErr, IfOk};
+ghost use Rattle.std.specs.Option.{ForSome};
+ghost use Rattle.mesh_outside.specs.Fault.{HasCause};
+ghost use Rattle.mesh_outside.specs.Files.{Reads, input_of};
+ghost use Rattle.mesh_outside.specs.Gained.{IsOpen, begun, appended, finished};
+ghost use Rattle.mesh_outside.specs.MemState.{FailsExactly, piece_of};
+ghost use Rattle.mesh_outside.specs.SureState.{opening};
+
+use crate::mem_read::read_from;
+use crate::{Depot, Files, OutFault, Written};
+use std::alloc::Global;
+use std::marker::Model;
+
+/// A depot in memory, which tells everything, and of which no call fails but the read of a name that
+/// is not there. It reads at most a given number of bytes a call.
+#[derive(Debug, Drop)]
+pub struct SureDepot {
+    inputs: Files,
+    piece: usize,
+    written: Written,
+    absent_reads: u64,
+}
+
+impl Model for SureDepot {
+    ghost use Rattle.std.specs.Prelude.{◌≤◌};
+    ghost use Rattle.mesh_outside.specs.SureState.{SureState};
+
+    ghost Value = { SureState };
+
+    ghost view = { λ d. record { inputs = d.inputs; piece = d.piece; written = d.written; absent_reads = d.absent_reads } };
+
+    ghost invariant = { λ d. 1 ≤ d.piece };
+}
+
+impl SureDepot {
+    /// A depot with these inputs.
+    pub fn new(alloc: Global, inputs: Files, piece: usize) -> SureDepot
+        requires { 1 ≤ piece }
+        ensures { result ≡ opening inputs piece }
+    {
+        SureDepot {
+            inputs,
+            piece,
+            written: Written::new(alloc),
+            absent_reads: 0,
+        }
+    }
+
+    /// The files gained so far.
+    pub fn written(&self) -> &Written
+        ensures { result.now ≡ self.now.written }
+    {
+        &self.written
+    }
+}
+
+impl Depot for SureDepot {
+    ghost use Rattle.std.specs.Prelude.{Some};
+    ghost use Rattle.mesh_outside.specs.SureState.{read_faults_of};
+
+    ghost inputs = { λ d. Some d.inputs };
+
+    ghost written = { λ d. Some d.written };
+
+    ghost read_faults = { read_faults_of };
+
+    ghost write_faults = { λ d. 0 };
+
+    fn read_piece(&mut self, name: &str, from: u64, into: &mut [u8]) -> Result<usize, OutFault>
+        ensures piece { Reads (Some self.old.inputs) name.now from into.old into.new result }
+        ensures within { IfOk result (λ count. count ≤ length into.old) }
+        ensures amount { IfOk result (λ count. ForSome (input_of self.old.inputs name.now) (λ bytes. count ≡ piece_of self.old.piece bytes from (length into.old))) }
+        ensures fails { FailsExactly result (input_of self.old.inputs name.now ≡ None) }
+        ensures memory { result ≡ Err OutFault.NoMemory → ⊥ }
+        ensures read_cause { HasCause (read_faults_of self.old name.now) (read_faults_of self.new name.now) result }
+        ensures reads_later { (other : List ℕ) → read_faults_of self.old other ≤ read_faults_of self.new other }
+        ensures others { self.new ≡ record self.old { absent_reads = self.new.absent_reads } }
+    {
+        match read_from(&self.inputs, name, from, into, self.piece) {
+            Some(count) => Ok(count),
+            None => {
+                self.absent_reads = self.absent_reads.saturating_add(1);
+                Err(OutFault::Failed)
+            }
+        }
+    }
+
+    fn begin(&mut self, name: &str) -> Result<(), OutFault>
+        ensures ok { OnOk result (self.new ≡ record self.old { written = begun name.now self.old.written }) }
+        ensures err { OnErr result (self.new ≡ self.old) }
+        ensures memory { result ≡ Err OutFault.Failed → ⊥ }
+    {
+        self.written.begin(name)
+    }
+
+    fn append(&mut self, bytes: &[u8]) -> Result<(), OutFault>
+        requires { IsOpen self.old.written }
+        ensures ok { OnOk result (self.new ≡ record self.old { written = appended bytes.now self.old.written }) }
+        ensures err { OnErr result (self.new ≡ self.old) }
+        ensures memory { result ≡ Err OutFault.Failed → ⊥ }
+    {
+        self.written.append(bytes)
+    }
+
+    fn finish(&mut self) -> Result<(), OutFault>
+        requires { IsOpen self.old.written }
+        ensures done { IsOk result }
+        ensures finished { self.new ≡ record self.old { written = finished self.old.written } }
+    {
+        self.written.finish();
+        Ok(())
+    }
+}
