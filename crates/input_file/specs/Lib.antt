@@ -1,2 +1,12 @@
+pub mod Texts
+pub mod Blocks
+pub mod WellFormed
+pub mod Answers
+pub mod Lines
+pub mod SeenForm
+pub mod Decks
+pub mod Overrides
+pub mod SeenOverride
+pub mod Printed
 pub mod Form
 pub mod FormReader
