@@ -1,3 +1,4 @@
 pub mod Forced
 pub mod Behinds
 pub mod Changes
+pub mod LeafList

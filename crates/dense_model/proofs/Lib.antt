@@ -14,3 +14,4 @@ pub mod LeafSums
 pub mod Adjacent
 pub mod Balances
 pub mod Conserves
+pub mod NextTree

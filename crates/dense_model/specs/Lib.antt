@@ -8,6 +8,7 @@ pub mod Stage
 pub mod Reaction
 pub mod Tags
 pub mod Remesh
+pub mod RemeshLaws
 pub mod Mask
 pub mod PayLaws
 pub mod StageLaws

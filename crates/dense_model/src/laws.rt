@@ -2,6 +2,7 @@
 
 ghost use Rattle.dense_model.specs.LookLaws.{LookLaw};
 ghost use Rattle.dense_model.specs.PayLaws.{PaysAtMost};
+ghost use Rattle.dense_model.specs.RemeshLaws.{NextTreeLaw};
 ghost use Rattle.dense_model.specs.StageLaws.{StageConserves};
 
 /// The look is what is stored on a leaf, the sum over the children one level finer, and the share of the parent's
@@ -20,4 +21,10 @@ pub fn pay_law()
 /// alone, where the field's rates fit.
 pub fn conservation_law()
     ensures { StageConserves }
+{}
+
+/// The next tree is the least balanced one that holds what is wanted, and each of its leaves differs by at most one
+/// level from each old leaf that it meets.
+pub fn next_tree_law()
+    ensures { NextTreeLaw }
 {}

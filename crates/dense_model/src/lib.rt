@@ -14,7 +14,7 @@ mod one_block_laws;
 mod one_block_stage;
 mod worked;
 
-pub use laws::{conservation_law, look_law, pay_law};
+pub use laws::{conservation_law, look_law, next_tree_law, pay_law};
 pub use one_block::BlockRun;
 pub use one_block_dump::dump_name;
 pub use one_block_laws::{no_total_falls_below_zero, the_sum_stays, worked_row};
