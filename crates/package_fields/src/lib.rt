@@ -1,0 +1,22 @@
+//! Packages declare fields, and a registry numbers them.
+//!
+//! A field has a label, the base of that label, the number of its variable where it belongs to a
+//! sparse pool, and flags. A [`Package`] is a name with fields. The [`Registry`] takes packages one
+//! by one and numbers their fields in the order of adding. It keeps that no two packages have one
+//! name, that no two fields have one label, that each flag set is permitted, and that there are at
+//! most 256 fields.
+#![tactic(auto)]
+
+mod fault;
+mod field;
+mod flag;
+mod items;
+mod name;
+mod registry;
+
+pub use fault::{FieldFault, NoMemory};
+pub use field::{Field, Fields, Package};
+pub use flag::{Flag, Flags, has_flag, is_permitted};
+pub use items::Items;
+pub use name::Name;
+pub use registry::{MOST_FIELDS, Registry};

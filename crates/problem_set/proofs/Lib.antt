@@ -1,0 +1,10 @@
+pub mod Digits
+pub mod GridLemmas
+pub mod BlockLemmas
+pub mod Each
+pub mod Loops
+pub mod Spaces
+pub mod Prefix
+pub mod Owned
+pub mod RateLemmas
+pub mod EachSome

@@ -1,0 +1,112 @@
+-- The keys of the mesh: its size, how it is refined, and its faces.
+use Rattle.std.specs.Prelude.{◌==◌, ◌&&◌, nat_le, ℕ, ℤ, pos, negsuc, Bool, true, false, List, [], ◌∷◌, ◌++◌, Option, Some, None, Result, Ok, Err, codes}
+use Rattle.input_file.specs.Texts.{Text}
+use Rattle.input_file.specs.Blocks.{Blocks}
+use Rattle.problem_set.specs.declared.words.Mode.{Mode}
+use Rattle.problem_set.specs.declared.words.Mode.TheVariants.{Plain, Fixed, Adaptive}
+use Rattle.problem_set.specs.declared.words.FaceKind.{FaceKind}
+use Rattle.problem_set.specs.declared.words.FaceKind.TheVariants.{Periodic, Outflow, Reflecting, Inflow}
+use Rattle.problem_set.specs.declared.fault.ProblemFault.{ProblemFault}
+use Rattle.problem_set.specs.declared.fault.ProblemFault.TheVariants.{BadValue}
+use Rattle.problem_set.specs.declared.mesh.Refining.{Refining}
+use Rattle.problem_set.specs.declared.mesh.Mesh.{Mesh}
+use Rattle.problem_set.specs.Reading.{◌>>=◌, only_if}
+use Rattle.problem_set.specs.Rows.{value_at, number, number_or_one, signed}
+use Rattle.problem_set.specs.Words.{mode_named, face_kind_named}
+
+-- the name of the block
+unfoldable pub mesh : Text
+mesh = codes "parthenon/mesh"
+
+unfoldable pub size1 : Blocks → Result ℕ ProblemFault
+size1 d = number d mesh (codes "nx1") 4 4194304 None
+
+unfoldable pub size2 : Blocks → Result ℕ ProblemFault
+size2 d = number_or_one d mesh (codes "nx2") 4 4194304 (Some 1)
+
+unfoldable pub size3 : Blocks → Result ℕ ProblemFault
+size3 d = number d mesh (codes "nx3") 1 1 (Some 1)
+
+unfoldable pub refinement : Blocks → Result Mode ProblemFault
+refinement d = value_at mode_named d mesh (codes "refinement") (Some Plain)
+
+unfoldable pub numlevel : Blocks → Result ℕ ProblemFault
+numlevel d = number d mesh (codes "numlevel") 1 11 (Some 1)
+
+unfoldable pub derefine_count : Blocks → Result ℕ ProblemFault
+derefine_count d = number d mesh (codes "derefine_count") 1 1000 (Some 10)
+
+-- -1, or 1 to 65,536
+abbrev pub is_pack_size : ℤ → Bool
+is_pack_size (pos n) = nat_le 1 n && nat_le n 65536
+is_pack_size (negsuc n) = n == 0
+
+-- the leaves of a partition, none for -1, where all leaves are in one
+abbrev pub pack_of : ℤ → Option ℕ
+pack_of (pos n) = Some n
+pack_of (negsuc n) = None
+
+unfoldable pub pack_size : Blocks → Result (Option ℕ) ProblemFault
+pack_size d = do
+  z ← signed d mesh (codes "pack_size") is_pack_size (Some (pos 16))
+  Ok (pack_of z)
+
+unfoldable pub face : Blocks → Text → Result FaceKind ProblemFault
+face d key = value_at face_kind_named d mesh key (Some Periodic)
+
+abbrev pub is_periodic : FaceKind → Bool
+is_periodic Periodic = true
+is_periodic Outflow = false
+is_periodic Reflecting = false
+is_periodic Inflow = false
+
+-- both are true, or both are false
+abbrev pub alike : Bool → Bool → Bool
+alike true b = b
+alike false true = false
+alike false false = true
+
+-- the faces of an axis, of which both or neither are periodic
+unfoldable pub face_pair : Blocks → Text → Text → Result (List FaceKind) ProblemFault
+face_pair d low high = do
+  l ← face d low
+  h ← face d high
+  only_if (alike (is_periodic l) (is_periodic h)) (l ∷ h ∷ []) (BadValue mesh high)
+
+-- the cells of the mesh along each axis
+unfoldable pub size : Blocks → Result (List ℕ) ProblemFault
+size d = do
+  n1 ← size1 d
+  n2 ← size2 d
+  n3 ← size3 d
+  Ok (n1 ∷ n2 ∷ n3 ∷ [])
+
+-- how many levels there are: one where nothing is refined
+abbrev pub levels_in : Mode → ℕ → ℕ
+levels_in Plain n = 1
+levels_in Fixed n = n
+levels_in Adaptive n = n
+
+-- how the mesh is refined and partitioned
+unfoldable pub refining : Blocks → Result Refining ProblemFault
+refining d = do
+  mode ← refinement d
+  n ← numlevel d
+  count ← derefine_count d
+  pack ← pack_size d
+  Ok (record { mode = mode; levels = levels_in mode n; derefine_count = count; pack_size = pack })
+
+-- the kinds of the faces of x1 and of x2
+unfoldable pub faces : Blocks → Result (List FaceKind) ProblemFault
+faces d = do
+  x1 ← face_pair d (codes "ix1_bc") (codes "ox1_bc")
+  x2 ← face_pair d (codes "ix2_bc") (codes "ox2_bc")
+  Ok (x1 ++ x2)
+
+-- all keys of the block, in order
+unfoldable pub mesh_keys : Blocks → Result Mesh ProblemFault
+mesh_keys d = do
+  n ← size d
+  r ← refining d
+  f ← faces d
+  Ok (record { size = n; refining = r; faces = f })

@@ -1,0 +1,36 @@
+-- A problem as plain data.
+use Rattle.problem_set.specs.declared.problem.Problem.{Problem}
+use Rattle.problem_set.specs.declared.parts_read.Parts.{Parts}
+use Rattle.problem_set.specs.Settings.{Settings}
+use Rattle.problem_set.specs.Problems.{settings}
+
+-- what the parts come to
+abbrev pub parts_settings : Parts → Settings
+parts_settings p = settings p.mesh p.grid p.stepping p.contents
+
+-- what a problem says
+abbrev pub settings_of : Problem → Settings
+settings_of p = record {
+  shape = p.shape;
+  size = p.size;
+  cells = p.cells;
+  mode = p.mode;
+  levels = p.levels;
+  derefine_count = p.derefine_count;
+  pack_size = p.pack_size;
+  faces = p.faces;
+  nlim = p.nlim;
+  alloc_threshold = p.alloc_threshold;
+  dealloc_threshold = p.dealloc_threshold;
+  dealloc_count = p.dealloc_count;
+  denominator = p.denominator;
+  nstages = p.nstages;
+  refine_every = p.refine_every;
+  dump_every = p.dump_every;
+  fields = p.fields;
+  moves = p.moves;
+  statics = p.statics;
+  boxes = p.boxes;
+  reactions = p.reactions;
+  criteria = p.criteria;
+}

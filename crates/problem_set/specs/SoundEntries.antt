@@ -1,0 +1,94 @@
+-- What holds of the blocks of a problem that come in any number.
+use Rattle.std.specs.Prelude.{◌≡◌, ◌≢◌, ◌≤◌, ◌<◌, ◌^◌, ◌-◌, ◌+◌, ◌*◌, nat_le, ℕ, ℤ, pos, Bool, true, List, length, slice_index, sum, All, unsigned_abs}
+use Rattle.std.specs.List.{slice_index_or, zip}
+use Rattle.package_fields.specs.Fields.{Registered, IsSound}
+use Rattle.package_fields.specs.declared.field.Field.{Field}
+use Rattle.problem_set.specs.declared.entries.Moves.{Moves}
+use Rattle.problem_set.specs.declared.entries.StaticAt.{StaticAt}
+use Rattle.problem_set.specs.declared.entries.StartBox.{StartBox}
+use Rattle.problem_set.specs.declared.entries.Reaction.{Reaction}
+use Rattle.problem_set.specs.declared.entries.Criterion.{Criterion}
+use Rattle.problem_set.specs.Rates.{rate_sum, bound}
+use Rattle.problem_set.specs.declared.words.FaceKind.{FaceKind}
+
+-- a total, or an amount, is at most this
+abbrev pub greatest_total : ℕ
+greatest_total = 4611686018427387903
+
+-- velocities along the axes, each of at most a milliard
+pub record IsSlow (v : List ℤ) : Type 0 where
+  pub three : length v ≡ 3
+  pub speed1 : unsigned_abs (slice_index_or v 0 (pos 0)) ≤ 1000000000
+  pub speed2 : unsigned_abs (slice_index_or v 1 (pos 0)) ≤ 1000000000
+  pub speed3 : unsigned_abs (slice_index_or v 2 (pos 0)) ≤ 1000000000
+
+-- how a field moves: velocities and coefficients of at most a milliard, amounts of at most the greatest total
+pub record IsMoves (m : Moves) : Type 0 where
+  pub slow : IsSlow m.v
+  pub six : length m.entry ≡ 6
+  pub spread : m.k ≤ 1000000000
+  pub amounts : All (λ amount. amount ≤ greatest_total) m.entry
+
+-- a part of the mesh lies in it along an axis
+pub record IsSpan (size lo hi : List ℕ) (axis : ℕ) : Type 0 where
+  pub ordered : slice_index lo axis ≤ slice_index hi axis
+  pub within : slice_index hi axis < slice_index size axis
+
+-- a part of the mesh lies in it
+pub record IsPart (size lo hi : List ℕ) : Type 0 where
+  pub three_lo : length lo ≡ 3
+  pub three_hi : length hi ≡ 3
+  pub along1 : IsSpan size lo hi 0
+  pub along2 : IsSpan size lo hi 1
+  pub along3 : IsSpan size lo hi 2
+
+pub record IsStatic (size : List ℕ) (levels : ℕ) (s : StaticAt) : Type 0 where
+  pub least : 1 ≤ s.level
+  pub most : s.level < levels
+  pub part : IsPart size s.lo s.hi
+
+pub record IsBox (size : List ℕ) (fields : ℕ) (b : StartBox) : Type 0 where
+  pub field : b.field < fields
+  pub part : IsPart size b.lo b.hi
+  pub amount : b.amount ≤ greatest_total
+
+pub record IsReaction (fields : ℕ) (r : Reaction) : Type 0 where
+  pub from : r.from < fields
+  pub to : r.to < fields
+  pub differ : r.from ≢ r.to
+  pub least : 1 ≤ r.den
+  pub most : r.den ≤ 1000000000
+  pub portion : r.num ≤ r.den
+
+pub record IsCriterion (levels fields : ℕ) (c : Criterion) : Type 0 where
+  pub field : c.field < fields
+  pub refine : c.refine_tol ≤ greatest_total
+  pub derefine : c.derefine_tol ≤ c.refine_tol
+  pub level : c.max_level < levels
+
+-- the fields, and how each moves
+pub record AreFields (fields : Registered) (moves : List Moves) : Type 0 where
+  pub fields_sound : IsSound fields.packages fields.fields
+  pub same_length : length moves ≡ length fields.fields
+  pub moves_sound : All IsMoves moves
+
+-- the blocks of the kinds that come in any number
+pub record AreEntries (size : List ℕ) (levels fields : ℕ) (statics : List StaticAt) (boxes : List StartBox) (reactions : List Reaction) (criteria : List Criterion) : Type 0 where
+  pub few_statics : length statics ≤ 256
+  pub few_boxes : length boxes ≤ 4096
+  pub few_reactions : length reactions ≤ 256
+  pub few_criteria : length criteria ≤ 64
+  pub statics_sound : All (IsStatic size levels) statics
+  pub boxes_sound : All (IsBox size fields) boxes
+  pub reactions_sound : All (IsReaction fields) reactions
+  pub criteria_sound : All (IsCriterion levels fields) criteria
+
+-- the rates of no field at the finest level add up to more than the denominator
+abbrev pub HaveFittingRates : ℕ → ℕ → ℕ → List Field → List Moves → Type 0
+HaveFittingRates dims levels denominator fields moves =
+    All (λ (p : Field × Moves). rate_sum dims (levels - 1) p.0 p.1 ≤ denominator) (zip fields moves)
+
+-- the opening sum and all that may come in keep within the greatest total
+abbrev pub HasBound : ℕ → List ℕ → List FaceKind → ℕ → ℕ → List Field → List Moves → List StartBox → Type 0
+HasBound dims size faces nlim nstages fields moves boxes =
+    bound dims size faces nlim nstages fields moves boxes ≤ greatest_total

@@ -1,0 +1,216 @@
+//! The blocks that declare fields.
+
+ghost use Rattle.std.specs.Prelude.{◌≡◌, ◌≤◌, pos, IfOk, All, Ok, length, unsigned_abs};
+ghost use Rattle.std.specs.Option.{option_copied};
+ghost use Rattle.problem_set.specs.Reading.{Answers, Gives};
+ghost use Rattle.problem_set.specs.FieldBlocks.{behind_field, field_name, default_flags, owner, flags, ids, flags_and_ids, speed, spread, entry_amount};
+ghost use Rattle.problem_set.specs.FieldBlocks.{speeds, entry_amounts, moves, field_block};
+ghost use Rattle.problem_set.specs.SoundEntries.{IsMoves, IsSlow, greatest_total};
+
+use input_file::Deck;
+use package_fields::{has_flag, FieldFault, Flag, Flags, Items, Name};
+use std::alloc::Global;
+
+use crate::entries::Moves;
+use crate::fault::ProblemFault;
+use crate::field_values::{flags_of, ids_of};
+use crate::numbers::is_name;
+use crate::reader::BlockReader;
+
+/// What a block says that declares a field, or the fields of a pool.
+#[derive(Drop)]
+pub struct FieldBlock {
+    pub name: Name,
+    /// The name of the package that the fields are added with.
+    pub owner: Name,
+    pub flags: Flags,
+    /// The ids of a pool by rising number, else empty.
+    pub ids: Items<u32>,
+    pub moves: Moves,
+}
+
+/// Reads a block that declares a field.
+#[tactic(auto, unfolding(crate::specs::FieldBlocks::field_block))]
+pub fn read_field_block(alloc: Global, deck: &Deck, name: &Name) -> Result<FieldBlock, ProblemFault>
+    ensures value { Gives result (field_block deck.now name.now) }
+    ensures sound { IfOk result (λ b. IsMoves b.moves) }
+{
+    let block = BlockReader {
+        alloc,
+        deck,
+        block: name.as_str(),
+    };
+    let name = read_field_name(&block)?;
+    let owner = read_owner(&block)?;
+    let (flags, ids) = read_flags_and_ids(&block, &name)?;
+    let moves = read_moves(&block)?;
+    Ok(FieldBlock {
+        name,
+        owner,
+        flags,
+        ids,
+        moves,
+    })
+}
+
+/// The name that stands behind `field/`.
+#[tactic(auto, unfolding(crate::specs::FieldBlocks::field_name))]
+fn read_field_name(block: &BlockReader) -> Result<Name, ProblemFault>
+    ensures { Gives result (field_name block.now.block.now) }
+{
+    match behind_field(block.block) {
+        Some(name) => {
+            if is_name(name) {
+                Ok(Name::copy_of(block.alloc, name)?)
+            } else {
+                Err(block.bad_value("name"))
+            }
+        }
+        None => Err(block.bad_value("name")),
+    }
+}
+
+/// What stands behind `field/`.
+#[tactic(auto, using(crate::proofs::Prefix::strips_text))]
+fn behind_field(block: &str) -> Option<&str>
+    ensures { option_copied result ≡ behind_field block.now }
+{
+    block.strip_prefix("field/")
+}
+
+#[tactic(auto, unfolding(crate::specs::FieldBlocks::owner))]
+fn read_owner(block: &BlockReader) -> Result<Name, ProblemFault>
+    ensures { Gives result (owner block.now.deck.now block.now.block.now) }
+{
+    match block.text("package") {
+        Some(name) => {
+            if is_name(name) {
+                Ok(Name::copy_of(block.alloc, name)?)
+            } else {
+                Err(block.bad_value("package"))
+            }
+        }
+        None => Ok(Name::copy_of(block.alloc, "transport")?),
+    }
+}
+
+#[tactic(auto, unfolding(crate::specs::FieldBlocks::flags_and_ids))]
+fn read_flags_and_ids(
+    block: &BlockReader,
+    name: &Name,
+) -> Result<(Flags, Items<u32>), ProblemFault>
+    ensures { Gives result (flags_and_ids block.now.deck.now block.now.block.now name.now) }
+{
+    let flags = read_flags(block, name)?;
+    let ids = read_ids(block, &flags)?;
+    Ok((flags, ids))
+}
+
+#[tactic(auto, unfolding(crate::specs::FieldBlocks::flags))]
+fn read_flags(block: &BlockReader, name: &Name) -> Result<Flags, ProblemFault>
+    ensures { Gives result (flags block.now.deck.now block.now.block.now name.now) }
+{
+    match block.text("flags") {
+        Some(text) => match flags_of(block.alloc, text)? {
+            Some(flags) => Ok(flags),
+            None => {
+                let name = Name::copy_of(block.alloc, name.as_str())?;
+                Err(ProblemFault::Fields {
+                    fault: FieldFault::BadFlags { name },
+                })
+            }
+        },
+        None => default_flags(block.alloc),
+    }
+}
+
+/// The flags of a field where the key is absent.
+fn default_flags(alloc: Global) -> Result<Flags, ProblemFault>
+    ensures { Gives result (Ok default_flags) }
+{
+    let flags = vec![in alloc; Flag::Cell, Flag::Independent, Flag::FillGhost, Flag::WithFluxes]?;
+    Ok(Items::from_vec(flags))
+}
+
+/// The ids of a pool; a field in no pool has none.
+#[tactic(auto, unfolding(crate::specs::FieldBlocks::ids))]
+fn read_ids(block: &BlockReader, flags: &Flags) -> Result<Items<u32>, ProblemFault>
+    ensures { Gives result (ids block.now.deck.now block.now.block.now flags.now) }
+{
+    if !has_flag(flags.as_slice(), Flag::Sparse) {
+        return match block.text("ids") {
+            None => Ok(Items::new(block.alloc)),
+            Some(_) => Err(block.bad_value("ids")),
+        };
+    }
+    match block.text("ids") {
+        None => Err(block.missing("ids")),
+        Some(text) => match ids_of(block.alloc, text)? {
+            Some(ids) => Ok(ids),
+            None => Err(block.bad_value("ids")),
+        },
+    }
+}
+
+#[tactic(auto, unfolding(crate::specs::FieldBlocks::moves))]
+fn read_moves(block: &BlockReader) -> Result<Moves, ProblemFault>
+    ensures value { Gives result (moves block.now.deck.now block.now.block.now) }
+    ensures sound { IfOk result IsMoves }
+{
+    let v = read_speeds(block)?;
+    let k = read_spread(block)?;
+    let entry = read_entry_amounts(block)?;
+    Ok(Moves { v, k, entry })
+}
+
+#[tactic(auto, unfolding(crate::specs::FieldBlocks::speeds))]
+fn read_speeds(block: &BlockReader) -> Result<[i64; 3], ProblemFault>
+    ensures value { Gives result (speeds block.now.deck.now block.now.block.now) }
+    ensures slow { IfOk result (λ v. IsSlow v) }
+{
+    let v1 = read_speed(block, "v1")?;
+    let v2 = read_speed(block, "v2")?;
+    Ok([v1, v2, 0])
+}
+
+#[tactic(auto, unfolding(crate::specs::FieldBlocks::speed, crate::specs::Rows::signed))]
+fn read_speed(block: &BlockReader, key: &str) -> Result<i64, ProblemFault>
+    ensures value { Gives result (speed block.now.deck.now block.now.block.now key.now) }
+    ensures slow { IfOk result (λ v. unsigned_abs v ≤ 1000000000) }
+{
+    let v = block.signed_at(key, 0)?;
+    if v.unsigned_abs() <= 1_000_000_000 {
+        Ok(v as i64)
+    } else {
+        Err(block.limit(key, v))
+    }
+}
+
+#[tactic(auto, unfolding(crate::specs::FieldBlocks::spread))]
+fn read_spread(block: &BlockReader) -> Result<u64, ProblemFault>
+    ensures value { Gives result (spread block.now.deck.now block.now.block.now) }
+    ensures most { IfOk result (λ k. k ≤ 1000000000) }
+{
+    block.number("k", 0, 1_000_000_000, Some(0))
+}
+
+#[tactic(auto, unfolding(crate::specs::FieldBlocks::entry_amounts))]
+fn read_entry_amounts(block: &BlockReader) -> Result<[u64; 6], ProblemFault>
+    ensures value { Gives result (entry_amounts block.now.deck.now block.now.block.now) }
+    ensures most { IfOk result (λ entry. (length entry ≡ 6) × All (λ amount. amount ≤ greatest_total) entry) }
+{
+    let low1 = read_entry_amount(block, "ix1_in")?;
+    let high1 = read_entry_amount(block, "ox1_in")?;
+    let low2 = read_entry_amount(block, "ix2_in")?;
+    let high2 = read_entry_amount(block, "ox2_in")?;
+    Ok([low1, high1, low2, high2, 0, 0])
+}
+
+/// The amount outside of a face.
+#[tactic(auto, unfolding(crate::specs::FieldBlocks::entry_amount))]
+fn read_entry_amount(block: &BlockReader, key: &str) -> Result<u64, ProblemFault>
+    ensures value { Gives result (entry_amount block.now.deck.now block.now.block.now key.now) }
+    ensures most { IfOk result (λ amount. amount ≤ greatest_total) }
+{
+    block.number(key, 0, 4_611_686_018_427_387_903, Some(0))
+}

@@ -1,0 +1,161 @@
+//! The opening sum of all totals, and all that may come in during the run.
+
+ghost use Rattle.std.specs.Prelude.{◌≡◌, ◌≤◌, ◌<◌, ◌*◌, ◌^◌, Some, length, slice_get, slice_index, All, sum_by};
+ghost use Rattle.std.specs.List.{zip, slice_index_or, range_with_len};
+ghost use Rattle.problem_set.specs.Rates.{face_cells, is_inflow, face_inflow, field_inflow, stage_inflow, span, box_total, bound};
+ghost use Rattle.problem_set.specs.Sound.{IsSize, IsFaces};
+ghost use Rattle.problem_set.specs.SoundEntries.{IsMoves, IsPart, IsBox};
+
+use package_fields::{has_flag, Field, Flag};
+
+use crate::entries::{Moves, StartBox};
+use crate::rates::{field_at, moves_at};
+use crate::words::{FaceKind, Faces};
+
+/// The cells of a part of the mesh along an axis, both ends included.
+fn span(lo: [u32; 3], hi: [u32; 3], axis: u32) -> u128
+    requires axis { axis < 3 }
+    requires lo { length lo ≡ 3 }
+    requires hi { length hi ≡ 3 }
+    requires ordered { slice_index lo axis ≤ slice_index hi axis }
+    requires within { slice_index hi axis < 4194304 }
+    ensures value { result ≡ span lo hi axis }
+    ensures most { result ≤ 4194304 }
+{
+    u128::from(hi[axis as usize] + 1 - lo[axis as usize])
+}
+
+/// What a box puts into all its cells.
+fn box_total(size: [u32; 3], start: &StartBox, fields: usize) -> u128
+    requires size { IsSize size }
+    requires sound { IsBox size fields start.now }
+    ensures value { result ≡ box_total start.now }
+    ensures most { result ≤ 2 ^ 106 }
+{
+    let (lo, hi) = (start.lo, start.hi);
+    let cells = span(lo, hi, 0) * span(lo, hi, 1) * span(lo, hi, 2);
+    cells * u128::from(start.amount)
+}
+
+/// What all boxes put into their cells.
+pub fn boxes_total(size: [u32; 3], boxes: &[StartBox], fields: usize) -> u128
+    requires size { IsSize size }
+    requires few { length boxes.now ≤ 4096 }
+    requires sound { All (IsBox size fields) boxes.now }
+    ensures value { result ≡ sum_by box_total boxes.now }
+    ensures most { result ≤ 2 ^ 118 }
+{
+    let mut sum = 0;
+    for i in 0..boxes.len() {
+        sum += box_total(size, box_at(boxes, i), fields);
+    }
+    sum
+}
+
+/// The box at a place of a list.
+fn box_at(boxes: &[StartBox], i: usize) -> &StartBox
+    requires { i < length boxes.now }
+    ensures { slice_get boxes.now i ≡ Some result.now }
+{
+    &boxes[i]
+}
+
+/// The root cells behind a face that is normal to an axis.
+fn face_cells(size: [u32; 3], axis: u32) -> u128
+    requires size { IsSize size }
+    requires axis { axis < 2 }
+    ensures value { result ≡ face_cells size axis }
+    ensures most { result ≤ 4194304 }
+{
+    if axis == 0 {
+        u128::from(size[1]) * u128::from(size[2])
+    } else {
+        u128::from(size[0]) * u128::from(size[2])
+    }
+}
+
+/// What may come in through a face in a stage.
+fn face_inflow(dims: u32, size: [u32; 3], faces: &Faces, moves: &Moves, i: u32) -> u128
+    requires size { IsSize size }
+    requires faces { IsFaces faces.now }
+    requires moves { IsMoves moves.now }
+    requires face { i < 4 }
+    ensures value { result ≡ face_inflow dims size faces.now moves.now i }
+    ensures most { result ≤ 2 ^ 84 }
+{
+    if i / 2 < dims && is_inflow_at(faces, i) {
+        u128::from(moves.entry[i as usize]) * face_cells(size, i / 2)
+    } else {
+        0
+    }
+}
+
+/// Whether the face at a place of the list lets its amount in.
+fn is_inflow_at(faces: &Faces, i: u32) -> bool
+    requires { i < length faces.now }
+    ensures { result ≡ is_inflow (slice_index_or faces.now i FaceKind.Outflow) }
+{
+    faces.as_slice()[i as usize].is_inflow()
+}
+
+/// What may come in of a field in a stage, which needs ghost zones and fluxes.
+#[tactic(auto, using(crate::proofs::RateLemmas::sum_range_more))]
+fn field_inflow(
+    dims: u32,
+    size: [u32; 3],
+    faces: &Faces,
+    field: &Field,
+    moves: Moves,
+) -> u128
+    requires size { IsSize size }
+    requires faces { IsFaces faces.now }
+    requires moves { IsMoves moves }
+    ensures value { result ≡ field_inflow dims size faces.now field.now moves }
+    ensures most { result ≤ 2 ^ 86 }
+{
+    let flags = field.flags.as_slice();
+    if has_flag(flags, Flag::FillGhost) && has_flag(flags, Flag::WithFluxes) {
+        faces_inflow(dims, size, faces, &moves)
+    } else {
+        0
+    }
+}
+
+/// What may come in through all faces in a stage.
+#[tactic(auto, using(crate::proofs::RateLemmas::sum_range_more))]
+fn faces_inflow(dims: u32, size: [u32; 3], faces: &Faces, moves: &Moves) -> u128
+    requires size { IsSize size }
+    requires faces { IsFaces faces.now }
+    requires moves { IsMoves moves.now }
+    ensures value { result ≡ sum_by (face_inflow dims size faces.now moves.now) (range_with_len 0 (length faces.now)) }
+    ensures most { result ≤ 2 ^ 86 }
+{
+    let mut sum = 0;
+    for i in 0..faces.len() {
+        sum += face_inflow(dims, size, faces, moves, i as u32);
+    }
+    sum
+}
+
+/// What may come in of all fields in a stage.
+pub fn stage_inflow(
+    dims: u32,
+    size: [u32; 3],
+    faces: &Faces,
+    fields: &[Field],
+    moves: &[Moves],
+) -> u128
+    requires size { IsSize size }
+    requires faces { IsFaces faces.now }
+    requires few { length fields.now ≤ 256 }
+    requires as_many { length moves.now ≡ length fields.now }
+    requires moves { All IsMoves moves.now }
+    ensures value { result ≡ stage_inflow dims size faces.now fields.now moves.now }
+    ensures most { result ≤ 2 ^ 94 }
+{
+    let mut sum = 0;
+    for i in 0..fields.len() {
+        sum += field_inflow(dims, size, faces, field_at(fields, i), moves_at(moves, i));
+    }
+    sum
+}

@@ -1,0 +1,37 @@
+//! The problem of a run: what a deck says of the mesh, the fields, and how they are advanced.
+//!
+//! [`read_problem`] reads a deck. It gives a [`Problem`], or the first fault in a fixed order: of the
+//! mesh, of its blocks, of time, of sparse fields, of the whole numbers; then of the field blocks, the
+//! static boxes, the opening boxes, the reactions and the criteria, each kind in deck order; last
+//! whether the rates leave every total at least 0, and whether the sum of all totals fits.
+//! Blocks and keys that it does not know are not read.
+#![tactic(auto)]
+
+mod block_kinds;
+mod contents;
+mod entries;
+mod entry_readers;
+mod fault;
+mod field_blocks;
+mod field_values;
+mod fitting;
+mod grid;
+
+mod mesh;
+mod numbers;
+mod packages;
+mod parts;
+mod parts_read;
+mod problem;
+mod rates;
+mod reading;
+mod reader;
+mod stepping;
+mod words;
+
+pub use entries::{Criterion, Moves, Reaction, StartBox, StaticAt};
+pub use fault::ProblemFault;
+pub use words::{FaceKind, Faces, Method, Mode};
+pub use problem::Problem;
+pub use rates::Rates;
+pub use reading::read_problem;

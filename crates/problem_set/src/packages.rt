@@ -1,0 +1,239 @@
+//! The packages of a deck, and the registry of their fields.
+
+ghost use Rattle.std.specs.Prelude.{◌≡◌, ◌++◌, [], ◌∷◌, map, length, All, Ok, IfOk, IfErr, OnOk};
+ghost use Rattle.std.specs.List.{flat_map};
+ghost use Rattle.problem_set.specs.declared.fault.ProblemFault.TheVariants.{NoMemory as no_memory};
+ghost use Rattle.problem_set.specs.Reading.{Answers, Gives, each};
+ghost use Rattle.problem_set.specs.FieldBlocks.{field_block, pool_field, lone_field, fields_of};
+ghost use Rattle.problem_set.specs.Packages.{blocks_of, package_of, moves_of, package_moves, with_added, with_owner, owner_moves, registered, fields};
+ghost use Rattle.problem_set.specs.SoundEntries.{IsMoves};
+
+use input_file::Deck;
+use package_fields::{Field, FieldFault, Fields, Flag, Flags, Items, Name, Package, Registry};
+use package_fields::has_flag;
+use sparse_pool::label_of;
+use std::alloc::Global;
+
+use crate::block_kinds::names_of;
+use crate::entries::Moves;
+use crate::fault::ProblemFault;
+use crate::field_blocks::{read_field_block, FieldBlock};
+
+/// The registry of all fields, and how each field moves, by its number.
+#[derive(Drop)]
+pub struct Fielded {
+    pub fields: Registry,
+    pub moves: Items<Moves>,
+}
+
+/// Fields and how each of them moves.
+#[derive(Drop)]
+struct Movers {
+    fields: Fields,
+    moves: Items<Moves>,
+}
+
+/// Adds the fields of a block, where it is of a package.
+fn push_block_if(
+    alloc: Global,
+    movers: &mut Movers,
+    block: &FieldBlock,
+    owner: &Name,
+) -> Result<(), ProblemFault>
+    ensures fields { OnOk result (movers.new.fields ≡ movers.old.fields ++ flat_map fields_of (blocks_of (block.now ∷ []) owner.now)) }
+    ensures moves { OnOk result (movers.new.moves ≡ movers.old.moves ++ flat_map moves_of (blocks_of (block.now ∷ []) owner.now)) }
+    ensures fault { IfErr result (λ fault. fault ≡ no_memory) }
+{
+    if block.owner.is(owner.as_str()) {
+        push_block(alloc, movers, block)?;
+    }
+    Ok(())
+}
+
+/// Adds the fields of a block.
+fn push_block(
+    alloc: Global,
+    movers: &mut Movers,
+    block: &FieldBlock,
+) -> Result<(), ProblemFault>
+    ensures fields { OnOk result (movers.new.fields ≡ movers.old.fields ++ fields_of block.now) }
+    ensures moves { OnOk result (movers.new.moves ≡ movers.old.moves ++ moves_of block.now) }
+    ensures fault { IfErr result (λ fault. fault ≡ no_memory) }
+{
+    if has_flag(block.flags.as_slice(), Flag::Sparse) {
+        push_pool(alloc, movers, block)
+    } else {
+        let field = lone_field(alloc, &block.name, &block.flags)?;
+        push_mover(movers, field, block.moves)
+    }
+}
+
+/// Adds the fields of a pool.
+fn push_pool(alloc: Global, movers: &mut Movers, block: &FieldBlock) -> Result<(), ProblemFault>
+    ensures fields { OnOk result (movers.new.fields ≡ movers.old.fields ++ map (pool_field block.now.name block.now.flags) block.now.ids) }
+    ensures moves { OnOk result (movers.new.moves ≡ movers.old.moves ++ map (λ id. block.now.moves) block.now.ids) }
+    ensures fault { IfErr result (λ fault. fault ≡ no_memory) }
+{
+    let ids = block.ids.as_slice();
+    for id in ids {
+        let field = pool_field(alloc, &block.name, &block.flags, *id)?;
+        push_mover(movers, field, block.moves)?;
+    }
+    Ok(())
+}
+
+/// Adds a field.
+fn push_mover(movers: &mut Movers, field: Field, moves: Moves) -> Result<(), ProblemFault>
+    ensures fields { OnOk result (movers.new.fields ≡ movers.old.fields ++ field ∷ []) }
+    ensures moves { OnOk result (movers.new.moves ≡ movers.old.moves ++ moves ∷ []) }
+    ensures fault { IfErr result (λ fault. fault ≡ no_memory) }
+{
+    movers.fields.push(field)?;
+    movers.moves.push(moves)?;
+    Ok(())
+}
+
+/// The field of a pool with an id.
+fn pool_field(alloc: Global, name: &Name, flags: &Flags, id: u32) -> Result<Field, ProblemFault>
+    ensures value { IfOk result (λ field. field ≡ pool_field name.now flags.now id) }
+    ensures fault { IfErr result (λ fault. fault ≡ no_memory) }
+{
+    let label = match label_of(alloc, name.as_str(), id) {
+        Ok(label) => Name::of(label),
+        Err(_) => return Err(ProblemFault::NoMemory),
+    };
+    let base = Name::copy_of(alloc, name.as_str())?;
+    let flags = Items::from_slice(alloc, flags.as_slice())?;
+    Ok(Field {
+        label,
+        base,
+        id: Some(id),
+        flags,
+    })
+}
+
+/// The field that is in no pool.
+fn lone_field(alloc: Global, name: &Name, flags: &Flags) -> Result<Field, ProblemFault>
+    ensures value { IfOk result (λ field. field ≡ lone_field name.now flags.now) }
+    ensures fault { IfErr result (λ fault. fault ≡ no_memory) }
+{
+    let label = Name::copy_of(alloc, name.as_str())?;
+    let base = Name::copy_of(alloc, name.as_str())?;
+    let flags = Items::from_slice(alloc, flags.as_slice())?;
+    Ok(Field {
+        label,
+        base,
+        id: None,
+        flags,
+    })
+}
+
+/// The fields of a package, in deck order.
+fn gather(alloc: Global, blocks: &[FieldBlock], owner: &Name) -> Result<Movers, ProblemFault>
+    ensures fields { IfOk result (λ m. m.fields ≡ flat_map fields_of (blocks_of blocks.now owner.now)) }
+    ensures moves { IfOk result (λ m. m.moves ≡ package_moves blocks.now owner.now) }
+    ensures fault { IfErr result (λ fault. fault ≡ no_memory) }
+{
+    let mut movers = Movers {
+        fields: Items::new(alloc),
+        moves: Items::new(alloc),
+    };
+    for block in blocks {
+        push_block_if(alloc, &mut movers, block, owner)?;
+    }
+    Ok(movers)
+}
+
+/// Adds the package of an owner.
+fn register_package(
+    alloc: Global,
+    registry: &mut Registry,
+    moves: &mut Items<Moves>,
+    blocks: &[FieldBlock],
+    owner: &Name,
+) -> Result<(), ProblemFault>
+    ensures registry { Answers (λ _. registry.new) result (with_added registry.old (package_of blocks.now owner.now)) }
+    ensures moves { OnOk result (moves.new ≡ moves.old ++ package_moves blocks.now owner.now) }
+{
+    let movers = gather(alloc, blocks, owner)?;
+    let name = Name::copy_of(alloc, owner.as_str())?;
+    let Movers {
+        fields,
+        moves: more,
+    } = movers;
+    add_package(registry, Package { name, fields })?;
+    moves.append(more)?;
+    Ok(())
+}
+
+/// Adds a package; a fault of a field is one of the problem.
+fn add_package(registry: &mut Registry, declared: Package) -> Result<(), ProblemFault>
+    ensures { Answers (λ _. registry.new) result (with_added registry.old declared) }
+{
+    match registry.add(declared) {
+        Ok(()) => Ok(()),
+        Err(FieldFault::NoMemory) => Err(ProblemFault::NoMemory),
+        Err(fault) => Err(ProblemFault::Fields { fault }),
+    }
+}
+
+/// Adds the package of an owner, unless it is there.
+fn register_owner(
+    alloc: Global,
+    registry: &mut Registry,
+    moves: &mut Items<Moves>,
+    blocks: &[FieldBlock],
+    owner: &Name,
+) -> Result<(), ProblemFault>
+    ensures registry { Answers (λ _. registry.new) result (with_owner blocks.now registry.old owner.now) }
+    ensures moves { OnOk result (moves.new ≡ moves.old ++ owner_moves blocks.now registry.old owner.now) }
+{
+    if registry.has_package(owner.as_str()) {
+        Ok(())
+    } else {
+        register_package(alloc, registry, moves, blocks, owner)
+    }
+}
+
+/// Adds the packages of all field blocks, in the order in which the blocks first name them.
+fn register(alloc: Global, blocks: &[FieldBlock]) -> Result<Fielded, ProblemFault>
+    requires { All (λ b. IsMoves b.moves) blocks.now }
+    ensures value { Gives result (registered blocks.now) }
+    ensures as_many { IfOk result (λ f. length f.moves ≡ length f.fields.fields) }
+    ensures sound { IfOk result (λ f. All IsMoves f.moves) }
+{
+    let mut fields = Registry::new(alloc);
+    let mut moves = Items::new(alloc);
+    for block in blocks {
+        register_owner(alloc, &mut fields, &mut moves, blocks, &block.owner)?;
+    }
+    Ok(Fielded { fields, moves })
+}
+
+/// Reads the field blocks of a deck and adds their packages.
+#[tactic(auto, unfolding(crate::specs::Packages::fields))]
+pub fn read_fields(alloc: Global, deck: &Deck) -> Result<Fielded, ProblemFault>
+    ensures value { Gives result (fields deck.now) }
+    ensures as_many { IfOk result (λ f. length f.moves ≡ length f.fields.fields) }
+    ensures sound { IfOk result (λ f. All IsMoves f.moves) }
+{
+    let names = names_of(alloc, deck, "field")?;
+    let blocks = read_field_blocks(alloc, deck, names.as_slice())?;
+    register(alloc, blocks.as_slice())
+}
+
+/// Reads the field blocks of these names.
+fn read_field_blocks(
+    alloc: Global,
+    deck: &Deck,
+    names: &[Name],
+) -> Result<Items<FieldBlock>, ProblemFault>
+    ensures value { Gives result (each (field_block deck.now) names.now) }
+    ensures sound { IfOk result (All (λ b. IsMoves b.moves)) }
+{
+    let mut blocks = Items::new(alloc);
+    for name in names {
+        blocks.push(read_field_block(alloc, deck, name)?)?;
+    }
+    Ok(blocks)
+}
