@@ -45,21 +45,19 @@ record IsRoot (s : Shape) (l : Loc) : Type 0 where
 at_origin : (r f x : ℕ) → x * 1 < r → x < r * f ^ 0
 at_origin r f x h = subst (λ v. x < r * v) (sym (pow-zero f)) (omega arith)
 
-one_root : (s : Shape) (x y z : ℕ) (b : Bool) → begins_inside s 0 x y z ≡ b → Each (IsRoot s) (cond b (record { level = 0; l1 = x; l2 = y; l3 = z } ∷ []) [])
-one_root s x y z true h =
+pub root_inside : (s : Shape) (x y z : ℕ) → begins_inside s 0 x y z ≡ true → IsIn s (record { level = 0; l1 = x; l2 = y; l3 = z })
+root_inside s x y z h =
     let a = and_parts (nat_lt (x * 1) (root_along s 0) && nat_lt (y * 1) (root_along s 1)) (nat_lt (z * 1) (root_along s 2)) h in
-    let b = and_parts (nat_lt (x * 1) (root_along s 0)) (nat_lt (y * 1) (root_along s 1)) a.0 in (
-      record {
-        inside = record {
-          level = omega arith;
-          within1 = at_origin (root_along s 0) (factor s.dims 0) x (ltb-true (x * 1) (root_along s 0) b.0);
-          within2 = at_origin (root_along s 1) (factor s.dims 1) y (ltb-true (y * 1) (root_along s 1) b.1);
-          within3 = at_origin (root_along s 2) (factor s.dims 2) z (ltb-true (z * 1) (root_along s 2) a.1);
-        };
-        root = refl;
-      },
-      tt,
-    )
+    let b = and_parts (nat_lt (x * 1) (root_along s 0)) (nat_lt (y * 1) (root_along s 1)) a.0 in
+    record {
+      level = omega arith;
+      within1 = at_origin (root_along s 0) (factor s.dims 0) x (ltb-true (x * 1) (root_along s 0) b.0);
+      within2 = at_origin (root_along s 1) (factor s.dims 1) y (ltb-true (y * 1) (root_along s 1) b.1);
+      within3 = at_origin (root_along s 2) (factor s.dims 2) z (ltb-true (z * 1) (root_along s 2) a.1);
+    }
+
+one_root : (s : Shape) (x y z : ℕ) (b : Bool) → begins_inside s 0 x y z ≡ b → Each (IsRoot s) (cond b (record { level = 0; l1 = x; l2 = y; l3 = z } ∷ []) [])
+one_root s x y z true h = (record { inside = root_inside s x y z h; root = refl }, tt)
 one_root s x y z false h = tt
 
 each_piece : (P : Loc → Type 0) (b : Bool) (n : ℕ) (f : ℕ → List Loc) (none : List Loc) → ((j : ℕ) → b ≡ true → Each P (f j)) → (b ≡ false → Each P none) → Each P (pieces b n f none)

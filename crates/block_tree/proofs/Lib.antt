@@ -2,3 +2,4 @@ pub mod Forced
 pub mod Behinds
 pub mod Changes
 pub mod LeafList
+pub mod KeyOrder

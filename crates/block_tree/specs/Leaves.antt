@@ -1,9 +1,12 @@
 -- The leaves of a tree in the order of their keys, and its inner nodes.
-use Rattle.std.specs.Prelude.{◌==◌, ℕ, zero, suc, ◌+◌, ◌*◌, ◌/◌, ◌%◌, ◌^◌, Bool, true, false, cond, ◌&&◌, nat_lt, List, [], ◌∷◌, ◌++◌}
+use Rattle.std.specs.Prelude.{◌==◌, ℕ, zero, suc, ◌+◌, ◌*◌, ◌/◌, ◌%◌, ◌^◌, Bool, true, false, cond, ◌&&◌, nat_lt, List, [], ◌∷◌, ◌++◌, ◌↔◌, IsTrue, map}
 use Rattle.std.specs.List.{flat_map, range_with_len}
+use Rattle.std.specs.List.Sorted.{IsStrictlyIncreasing}
 use Rattle.morton_order.specs.declared.space.Loc.{Loc}
 use Rattle.morton_order.specs.declared.space.Shape.{Shape}
-use Rattle.morton_order.specs.Space.{child, parts, root_along}
+use Rattle.morton_order.specs.Space.{IsShape, child, parts, root_along}
+use Rattle.morton_order.specs.Key.{key}
+use Rattle.block_tree.specs.Tree.{IsLeaf, IsTree, is_listed}
 
 -- nothing, or what each number below n gives
 abbrev pub pieces : {X : Type 0} → Bool → ℕ → (ℕ → List X) → List X → List X
@@ -40,3 +43,11 @@ inner_below (suc k) dims inner l = cond (inner l) (l ∷ []) [] ++ pieces (inner
 -- the inner nodes of a tree, each before its children
 unfoldable pub inner_of : Shape → (Loc → Bool) → List Loc
 inner_of s inner = flat_map (inner_below 10 s.dims inner) (roots s)
+
+-- the listed leaves are the leaves of the tree, each once, by rising key
+pub record AreLeavesInOrder (s : Shape) (inner : Loc → Bool) : Type 0 where
+  pub rising : IsStrictlyIncreasing (map key (leaves_of s inner))
+  pub leaves : (l : Loc) → IsTrue (is_listed (leaves_of s inner) l) ↔ IsLeaf s inner l
+
+abbrev pub LeavesLaw : Type 0
+LeavesLaw = (s : Shape) (inner : Loc → Bool) → IsShape s → IsTree s inner → AreLeavesInOrder s inner

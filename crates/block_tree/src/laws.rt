@@ -2,6 +2,7 @@
 
 ghost use Rattle.block_tree.specs.Behind.{BehindIsExact, BehindIsMutual};
 ghost use Rattle.block_tree.specs.Change.{ChangesByOneLevel};
+ghost use Rattle.block_tree.specs.Leaves.{LeavesLaw};
 ghost use Rattle.block_tree.specs.Least.{LeastIsLeast};
 
 /// The nodes that are found level by level are the least balanced tree that holds what is wanted.
@@ -18,4 +19,9 @@ pub fn behind_laws()
 /// Each leaf of the least tree that follows a balanced one differs by at most one level from each old leaf that it meets.
 pub fn change_law()
     ensures { ChangesByOneLevel }
+{}
+
+/// The listed leaves are exactly the leaves of the tree, each once, by rising key.
+pub fn leaves_law()
+    ensures { LeavesLaw }
 {}

@@ -6,4 +6,4 @@ mod boxes;
 mod laws;
 
 pub use boxes::StaticBox;
-pub use laws::{behind_laws, change_law, least_tree_law};
+pub use laws::{behind_laws, change_law, least_tree_law, leaves_law};

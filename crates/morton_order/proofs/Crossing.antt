@@ -135,7 +135,7 @@ crossed_level s c axis high d h = let x = crossed s c axis high d h in sym (ap (
 -- from the outer half of a pair, the pair crosses too, and what is met is the outer half of the other pair
 pub across-parent : (s : Shape) → s.dims ≤ 3 → (c d : Loc) (axis : ℕ) (high : Bool) → axis < s.dims → IsIn s c → 1 ≤ c.level → axis_of c axis % 2 ≡ cond high 1 0 → across s c axis high ≡ Some d → (across s (parent s.dims c) axis high ≡ Some (parent s.dims d)) × (axis_of d axis % 2 ≡ cond high 0 1)
 across-parent s most c d axis high used inside fine half h =
-      let x = crossed s c axis high d h in
+    let x = crossed s c axis high d h in
     let n : ℕ = blocks_along s axis (c.level - 1) in
     let e : blocks_along s axis c.level ≡ n * 2 = blocks_double s axis c.level used fine in
     let below : axis_of c axis < n * 2 = subst (λ v. axis_of c axis < v) e (inside_along s c axis inside (omega arith)) in
@@ -149,7 +149,7 @@ across-parent s most c d axis high used inside fine half h =
 -- where the pair crosses, so does its outer half
 pub across-half : (s : Shape) → s.dims ≤ 3 → (c e : Loc) (axis : ℕ) (high : Bool) → axis < s.dims → IsIn s c → 1 ≤ c.level → axis_of c axis % 2 ≡ cond high 1 0 → across s (parent s.dims c) axis high ≡ Some e → (d : Loc) × (across s c axis high ≡ Some d) × (parent s.dims d ≡ e)
 across-half s most c e axis high used inside fine half h =
-      let x = crossed s (parent s.dims c) axis high e h in
+    let x = crossed s (parent s.dims c) axis high e h in
     let n : ℕ = blocks_along s axis (c.level - 1) in
     let double : blocks_along s axis c.level ≡ n * 2 = blocks_double s axis c.level used fine in
     let below : axis_of c axis < n * 2 = subst (λ v. axis_of c axis < v) double (inside_along s c axis inside (omega arith)) in
@@ -163,7 +163,7 @@ across-half s most c e axis high used inside fine half h =
 -- from the inner half of a pair one stays in the pair
 pub across-sibling : (s : Shape) → s.dims ≤ 3 → (c : Loc) (axis : ℕ) (high : Bool) → axis < s.dims → IsIn s c → 1 ≤ c.level → axis_of c axis % 2 ≡ cond high 0 1 → (d : Loc) × (across s c axis high ≡ Some d) × (parent s.dims d ≡ parent s.dims c)
 across-sibling s most c axis high used inside fine half =
-      let n : ℕ = blocks_along s axis (c.level - 1) in
+    let n : ℕ = blocks_along s axis (c.level - 1) in
     let double : blocks_along s axis c.level ≡ n * 2 = blocks_double s axis c.level used fine in
     let below : axis_of c axis < n * 2 = subst (λ v. axis_of c axis < v) double (inside_along s c axis inside (omega arith)) in
     let (y, is, whole, outer) = inner_step n (wraps s axis) high (axis_of c axis) below half in (
@@ -252,6 +252,6 @@ parents_touch s l m inside there fine near =
 -- what lies across a side is the location moved along the axis
 pub across-moved : (s : Shape) (c d : Loc) (axis : ℕ) (high : Bool) → across s c axis high ≡ Some d → d ≡ moved c axis (axis_of d axis)
 across-moved s c d axis high h =
-  let x = crossed s c axis high d h in
-  let y : axis_of d axis ≡ x.y = ap (λ (v : Loc). axis_of v axis) (sym x.is) ∙ axis_moved c axis x.y in
-  sym x.is ∙ ap (moved c axis) (sym y)
+    let x = crossed s c axis high d h in
+    let y : axis_of d axis ≡ x.y = ap (λ (v : Loc). axis_of v axis) (sym x.is) ∙ axis_moved c axis x.y in
+    sym x.is ∙ ap (moved c axis) (sym y)

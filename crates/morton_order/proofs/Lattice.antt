@@ -11,7 +11,7 @@ one_pow zero = refl
 one_pow (suc k) = let e : 1 ^ suc k ≡ 1 ^ k * 1 = pow-suc 1 k in let h : 1 ^ k ≡ 1 = one_pow k in omega arith
 
 -- below one there is only zero
-zero_below : (root level x : ℕ) → root ≤ 1 → x < root * 1 ^ level → x ≡ zero
+pub zero_below : (root level x : ℕ) → root ≤ 1 → x < root * 1 ^ level → x ≡ zero
 zero_below root level x few h =
     let below : x < root * 1 = subst (λ v. x < root * v) (one_pow level) h in omega arith
 
