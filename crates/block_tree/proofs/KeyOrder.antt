@@ -1,6 +1,6 @@
 -- The listed leaves of a tree are all its leaves, in the order of their keys.
-use Rattle.std.proofs.Common.{◌≡◌, ◌⊎◌, inl, inr, ℕ, zero, suc, ◌+◌, ◌-◌, ◌*◌, ◌/◌, ◌%◌, ◌^◌, ◌<◌, ◌≤◌, Bool, true, false, cond, ◌&&◌, ◌||◌, nat_lt, List, [], ◌∷◌, ◌++◌, length, map, refl, arith, ap, subst, sym, ◌∙◌, append_assoc, lit<, lit≤}
-use Rattle.std.specs.List.{flat_map, list_any, range_with_len, slice_index_or}
+use Rattle.std.proofs.Common.{◌≡◌, ◌⊎◌, inl, inr, ℕ, zero, suc, ◌+◌, ◌-◌, ◌*◌, ◌/◌, ◌%◌, ◌^◌, ◌<◌, ◌≤◌, Bool, true, false, cond, ◌&&◌, ◌||◌, nat_lt, List, [], ◌∷◌, ◌++◌, length, map, slice_index, refl, arith, ap, subst, sym, ◌∙◌, append_assoc, lit<, lit≤}
+use Rattle.std.specs.List.{flat_map, list_any, range_with_len}
 use Rattle.std.specs.List.Sorted.{IsStrictlyIncreasing}
 use Rattle.std.proofs.Math.Nat.{div-div-eq-div-mul, div-mul-le_self, one-le-pow, pow-suc, pow-zero}
 use Rattle.std.proofs.lemmas.Nat.{mul-le}
@@ -253,9 +253,11 @@ rising_roots s inner shape (suc k) n x y z h = by (begins_inside s (suc k) x y z
 -- what rises is strictly increasing
 increasing : (a b : ℕ) (ls : List Loc) → Rises a b ls → IsStrictlyIncreasing (map key ls)
 increasing a b [] r k small = absurd (omega arith)
-increasing a b (l ∷ []) r zero small = absurd (omega arith)
+increasing a b (l ∷ []) r k small = absurd (omega arith)
 increasing a b (l ∷ m ∷ ls) r zero small = let next : key l + 1 ≤ key m = r.1.0 in omega arith
-increasing a b (l ∷ ls) r (suc k) small = increasing (key l + 1) b ls r.1 k (omega arith)
+increasing a b (l ∷ m ∷ ls) r (suc k) small =
+    let e : suc k + 1 ≡ suc (k + 1) = omega arith in
+    subst (λ v. slice_index (map key (l ∷ m ∷ ls)) (suc k) < slice_index (map key (l ∷ m ∷ ls)) v) (sym e) (increasing (key l + 1) b (m ∷ ls) r.1 k (omega arith))
 
 rising_leaves : (s : Shape) (inner : Loc → Bool) → IsShape s → IsStrictlyIncreasing (map key (leaves_of s inner))
 unfolding leaves_of roots
