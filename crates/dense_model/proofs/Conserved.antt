@@ -7,8 +7,8 @@ use Rattle.std.proofs.lemmas.List.{take_all}
 use Rattle.std.proofs.lemmas.List.Elements.{All-from_get_or}
 use Rattle.std.proofs.lemmas.List.FromFn.{sum_by-map-range_with_len_more, length-map-range_with_len}
 use Rattle.std.proofs.lemmas.List.Sums.{sum_by_more, get_or-le-sum_by}
-use Rattle.input_file.specs.Form.{IsForm}
-use Rattle.input_file.specs.declared.form.FirstForm.{FirstForm}
+use Rattle.fixed_form.specs.Form.{IsForm}
+use Rattle.fixed_form.specs.declared.form.FirstForm.{FirstForm}
 use Rattle.dense_model.specs.declared.one_block_stage.Rates.{Rates}
 use Rattle.dense_model.specs.OneBlock.{pair, total_after, stage, opening, rates_of, mesh_after}
 use Rattle.dense_model.proofs.Faces.{AreProper, lost-le, reflects, last_reflects}

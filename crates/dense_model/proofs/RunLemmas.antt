@@ -1,8 +1,8 @@
 -- One cycle more of a run.
 use Rattle.std.proofs.Common.{◌≡◌, ℕ, suc, ◌+◌, ◌^◌, ◌<◌, List, length, take, drop, All, ◌++◌, refl, sym, ap, ◌∙◌, subst, arith}
 use Rattle.std.proofs.lemmas.List.{take_at}
-use Rattle.input_file.specs.declared.form.FirstForm.{FirstForm}
-use Rattle.input_file.specs.Form.{IsForm}
+use Rattle.fixed_form.specs.declared.form.FirstForm.{FirstForm}
+use Rattle.fixed_form.specs.Form.{IsForm}
 use Rattle.dense_model.specs.OneBlock.{opening, stage, rates_of, mesh_after}
 use Rattle.dense_model.specs.OneBlockRun.{IsAt}
 use Rattle.dense_model.proofs.Conserved.{length-stage, totals-lt}

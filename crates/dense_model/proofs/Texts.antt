@@ -4,7 +4,7 @@ use Rattle.std.specs.List.{list_all, join_with_byte}
 use Rattle.std.specs.Fmt.{char_count, decimal, padded_integral, styled_decimal, format_spec}
 use Rattle.std.proofs.lemmas.Bool.Decides.{nat_tests}
 use Rattle.std.proofs.lemmas.List.{append-nil, length-map, length-take-le, map_more}
-use Rattle.input_file.specs.declared.form.FirstForm.{FirstForm}
+use Rattle.fixed_form.specs.declared.form.FirstForm.{FirstForm}
 use Rattle.dense_model.specs.OneBlock.{mesh_after}
 use Rattle.dense_model.specs.OneBlockDump.{line, row, block_text, heading, dump_text, six_digits, dump_name}
 use Rattle.dense_model.specs.OneBlockRun.{IsAt}

@@ -1,7 +1,7 @@
 use Rattle.std.specs.Prelude.{ℕ, ◌+◌, ◌-◌, ◌==◌, zero, suc, Bool, ◌&&◌, ◌||◌, List, length, map, slice_index, nat_le, if◌then◌else◌}
 use Rattle.std.specs.List.{range_with_len}
 use Rattle.mesh_num.specs.Portion.{portion}
-use Rattle.input_file.specs.declared.form.FirstForm.{FirstForm}
+use Rattle.fixed_form.specs.declared.form.FirstForm.{FirstForm}
 use Rattle.dense_model.specs.declared.one_block_stage.Rates.{Rates}
 use Rattle.dense_model.specs.declared.one_block_stage.FacePair.{FacePair}
 

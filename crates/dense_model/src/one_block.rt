@@ -1,11 +1,11 @@
 ghost use Rattle.std.specs.Prelude.{◌≡◌, ◌+◌, ◌<◌, ◌≤◌, ◌↔◌, IfOk, IsTrue};
-ghost use Rattle.input_file.specs.Form.{IsForm};
+ghost use Rattle.fixed_form.specs.Form.{IsForm};
 ghost use Rattle.dense_model.specs.OneBlock.{opening};
 ghost use Rattle.dense_model.specs.OneBlockDump.{dump_text};
 
 use crate::one_block_dump;
 use crate::one_block_stage::{Rates, advance};
-use input_file::FirstForm;
+use fixed_form::FirstForm;
 use mesh_num::NoMemory;
 use std::alloc::Global;
 use std::marker::Model;

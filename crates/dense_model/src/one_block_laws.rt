@@ -1,6 +1,6 @@
 ghost use Rattle.std.specs.Prelude.{◌≡◌, ℕ, ◌+◌, ◌-◌, ◌*◌, ◌^◌, ◌<◌, ◌≤◌, [], ◌∷◌, All, sum};
-ghost use Rattle.input_file.specs.Form.{IsForm};
-ghost use Rattle.input_file.specs.declared.form.FirstForm.{FirstForm};
+ghost use Rattle.fixed_form.specs.Form.{IsForm};
+ghost use Rattle.fixed_form.specs.declared.form.FirstForm.{FirstForm};
 ghost use Rattle.dense_model.specs.OneBlock.{mesh_after, rates_of, look, gained, lost};
 ghost use Rattle.dense_model.specs.OneBlockRun.{worked_form};
 

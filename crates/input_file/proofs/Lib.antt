@@ -9,6 +9,3 @@ pub mod PrintLemmas
 pub mod ReadBackLemmas
 pub mod ReadingLemmas
 pub mod TextLemmas
-mod Afters
-mod Numerals
-mod Spelled

@@ -8,5 +8,3 @@ pub mod Decks
 pub mod Overrides
 pub mod SeenOverride
 pub mod Printed
-pub mod Form
-pub mod FormReader

@@ -2,8 +2,8 @@
 use Rattle.std.proofs.Common.{◌≡◌, ℕ, ◌+◌, ◌≤◌, List, ◌++◌, length, take, Option, Some, None, refl, sym, ◌∙◌, ap, subst, inr, arith, append-nil}
 use Rattle.std.proofs.lemmas.List.{take-append-drop, length-take}
 use Rattle.std.proofs.Math.ListN.{drop_of_length-le}
-use Rattle.input_file.specs.declared.form.FirstForm.{FirstForm}
-use Rattle.input_file.specs.Form.{IsForm, text_of}
+use Rattle.fixed_form.specs.declared.form.FirstForm.{FirstForm}
+use Rattle.fixed_form.specs.Form.{IsForm, text_of}
 use Rattle.mesh_outside.specs.declared.files.File.{File}
 use Rattle.mesh_outside.specs.declared.files.Gained.{Gained}
 use Rattle.mesh_outside.specs.Files.{input_of, IsInput, ReadsInput}

@@ -1,7 +1,7 @@
 -- How a call of the program ends, and what its depot has gained then.
 use Rattle.std.specs.Prelude.{◌≡◌, ℕ, ◌⊎◌, List, Option, Some, None, IsSome}
-use Rattle.input_file.specs.declared.form.FirstForm.{FirstForm}
-use Rattle.input_file.specs.Form.{IsForm, text_of}
+use Rattle.fixed_form.specs.declared.form.FirstForm.{FirstForm}
+use Rattle.fixed_form.specs.Form.{IsForm, text_of}
 use Rattle.mesh_outside.specs.declared.files.File.{File}
 use Rattle.mesh_outside.specs.declared.files.Gained.{Gained}
 use Rattle.mesh_outside.specs.Files.{input_of}

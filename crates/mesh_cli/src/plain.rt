@@ -1,13 +1,13 @@
 ghost use Rattle.std.specs.Prelude.{◌≡◌, ℕ, ◌≤◌, List, Some};
 ghost use Rattle.std.specs.Option.{ForSome};
-ghost use Rattle.input_file.specs.Form.{IsForm};
+ghost use Rattle.fixed_form.specs.Form.{IsForm};
 ghost use Rattle.mesh_outside.specs.Fault.{Rose};
 ghost use Rattle.mesh_outside.specs.Gained.{IsClosed};
 ghost use Rattle.mesh_cli.specs.Words.{texts, named_file};
 ghost use Rattle.mesh_cli.specs.Ends.{Ends, EndsRun, EndsAccepted, Completes};
 
 use crate::{Status, words};
-use input_file::{FirstForm, first_form, text_of_a_form_is_short};
+use fixed_form::{FirstForm, first_form, text_of_a_form_is_short};
 use mesh_driver::{DriveFault, drive_form};
 use mesh_outside::{Depot, OutFault, Sink, read_input};
 use std::alloc::Global;

@@ -1,7 +1,7 @@
 -- What the run's loop gains, cycle by cycle.
 use Rattle.std.proofs.Common.{◌≡◌, ℕ, ◌+◌, ◌≤◌, List, [], ◌∷◌, get_or, Option, Some, None, IsTrue, refl, sym, ap, subst, arith}
 use Rattle.std.specs.Option.{ForSome}
-use Rattle.input_file.specs.declared.form.FirstForm.{FirstForm}
+use Rattle.fixed_form.specs.declared.form.FirstForm.{FirstForm}
 use Rattle.dense_model.specs.OneBlockRun.{Progress}
 use Rattle.mesh_outside.specs.declared.files.Gained.{Gained}
 use Rattle.mesh_outside.specs.Gained.{IsClosed, Gains, GainsCut}

@@ -1,7 +1,7 @@
 -- The files of a run of the first form.
 use Rattle.std.specs.Prelude.{ℕ, ◌+◌, true, List, map}
 use Rattle.std.specs.List.{range_with_len}
-use Rattle.input_file.specs.declared.form.FirstForm.{FirstForm}
+use Rattle.fixed_form.specs.declared.form.FirstForm.{FirstForm}
 use Rattle.dense_model.specs.OneBlockDump.{dump_name, dump_text}
 use Rattle.mesh_outside.specs.declared.files.Gained.{Gained}
 use Rattle.mesh_outside.specs.Gained.{file_with}

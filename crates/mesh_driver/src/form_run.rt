@@ -1,13 +1,13 @@
 ghost use Rattle.std.specs.Prelude.{◌≡◌, ℕ, ◌≤◌, List, [], ◌∷◌, OnOk, OnErr};
 ghost use Rattle.std.specs.Option.{ForSome};
-ghost use Rattle.input_file.specs.Form.{IsForm};
+ghost use Rattle.fixed_form.specs.Form.{IsForm};
 ghost use Rattle.mesh_outside.specs.Gained.{IsClosed, Gains, GainsCut};
 ghost use Rattle.mesh_driver.specs.Fault.{HasWriteCause};
 ghost use Rattle.mesh_driver.specs.FormFiles.{dump_of, files_of};
 
 use crate::DriveFault;
 use dense_model::{BlockRun, dump_name};
-use input_file::FirstForm;
+use fixed_form::FirstForm;
 use mesh_outside::{Depot, write_file};
 use std::alloc::Global;
 

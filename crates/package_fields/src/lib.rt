@@ -19,4 +19,4 @@ pub use field::{Field, Fields, Package};
 pub use flag::{Flag, Flags, has_flag, is_permitted};
 pub use items::Items;
 pub use name::Name;
-pub use registry::{MOST_FIELDS, Registry};
+pub use registry::Registry;

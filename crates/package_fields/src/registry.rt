@@ -12,9 +12,6 @@ use crate::name::Name;
 use std::alloc::Global;
 use std::marker::Model;
 
-/// The most fields that a registry takes.
-pub const MOST_FIELDS: u32 = 256;
-
 /// The packages that were added, and their fields, numbered from 0 in the order of adding.
 #[derive(Debug, Drop)]
 pub struct Registry {

@@ -20,7 +20,7 @@ use Rattle.problem_set.specs.Reading.{◌>>=◌}
 use Rattle.problem_set.specs.SoundEntries.{IsMoves}
 use Rattle.problem_set.specs.FieldBlocks.{pool_field, fields_of}
 use Rattle.problem_set.specs.Packages.{with_name, first_named, blocks_of, package_of, moves_of, package_moves, with_added, all_added, owners, unless, with_owner, owner_moves, registered}
-use Rattle.problem_set.specs.declared.packages.Fielded.{Fielded}
+use Rattle.problem_set.specs.declared.packages.FieldTable.{FieldTable}
 use Rattle.package_fields.specs.declared.fault.FieldFault.{FieldFault}
 use Rattle.package_fields.specs.Registered.{package_fault, with_package}
 
@@ -130,6 +130,7 @@ register_step blocks i d r moves o r' moves' sound s lt is e m =
   where
     names' : List Text
     names' = owners (take i blocks)
+
     cases : (b : Bool) → cond b (Ok r) (with_added r (package_of blocks o)) ≡ Ok r' → moves' ≡ moves ++ cond b [] (package_moves blocks o) → IsRegistered blocks (cond b names' (names' ++ o ∷ [])) r' moves'
     cases true e m = let same : r ≡ r' = cc in subst (λ (x : Registered). IsRegistered blocks names' x moves') same (subst (IsRegistered blocks names' r) (sym (m ∙ append-nil moves)) s)
     cases false e m = register_new blocks names' r moves o r' moves' sound s e m
@@ -146,6 +147,7 @@ register_stop blocks i d r moves o fault s lt is (inr h) = inr (ap (λ (a : Resu
   where
     names : List Text
     names = owners (take i blocks)
+
     cases : (b : Bool) → is_among r.packages o ≡ b → cond b (Ok r) (with_added r (package_of blocks o)) ≡ Err fault → all_added none_added (map (package_of blocks) (owners blocks)) ≡ Err fault
     cases true k e = let no : ⊥ = cc in absurd no
     cases false k e =

@@ -6,7 +6,7 @@ use Rattle.problem_set.specs.declared.fault.ProblemFault.{ProblemFault}
 use Rattle.problem_set.specs.declared.words.Mode.{Mode}
 use Rattle.package_fields.specs.declared.field.Field.{Field}
 use Rattle.problem_set.specs.declared.block_kinds.BlockNames.{BlockNames}
-use Rattle.problem_set.specs.declared.packages.Fielded.{Fielded}
+use Rattle.problem_set.specs.declared.packages.FieldTable.{FieldTable}
 use Rattle.problem_set.specs.declared.contents.Entries.{Entries}
 use Rattle.problem_set.specs.declared.contents.Contents.{Contents}
 use Rattle.problem_set.specs.Reading.{◌>>=◌, each}
@@ -29,4 +29,4 @@ contents d size mode levels = do
   names ← block_names d mode
   f ← fields d
   e ← entries d size levels f.fields.fields names
-  Ok (record { fielded = f; entries = e })
+  Ok (record { field_table = f; entries = e })

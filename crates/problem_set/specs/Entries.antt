@@ -11,7 +11,7 @@ use Rattle.problem_set.specs.declared.entries.StaticAt.{StaticAt}
 use Rattle.problem_set.specs.declared.entries.StartBox.{StartBox}
 use Rattle.problem_set.specs.declared.entries.Reaction.{Reaction}
 use Rattle.problem_set.specs.declared.entries.Criterion.{Criterion}
-use Rattle.problem_set.specs.declared.parts.Part.{Part}
+use Rattle.problem_set.specs.declared.mesh_part.Part.{Part}
 use Rattle.problem_set.specs.Reading.{◌>>=◌, only_if}
 use Rattle.problem_set.specs.Rows.{value_at, number}
 use Rattle.problem_set.specs.Words.{method_named}

@@ -13,7 +13,7 @@ use Rattle.problem_set.specs.declared.fault.ProblemFault.{ProblemFault}
 use Rattle.problem_set.specs.declared.fault.ProblemFault.TheVariants.{Fields}
 use Rattle.problem_set.specs.declared.entries.Moves.{Moves}
 use Rattle.problem_set.specs.declared.field_blocks.FieldBlock.{FieldBlock}
-use Rattle.problem_set.specs.declared.packages.Fielded.{Fielded}
+use Rattle.problem_set.specs.declared.packages.FieldTable.{FieldTable}
 use Rattle.problem_set.specs.Reading.{◌>>=◌, each}
 use Rattle.problem_set.specs.BlockKinds.{names_of}
 use Rattle.problem_set.specs.FieldBlocks.{field_block, fields_of}
@@ -71,13 +71,13 @@ abbrev pub owners : List FieldBlock → List Text
 owners blocks = first_named (map (λ b. b.owner) blocks)
 
 -- the registry of all packages, and how each field moves, by its number
-unfoldable pub registered : List FieldBlock → Result Fielded ProblemFault
+unfoldable pub registered : List FieldBlock → Result FieldTable ProblemFault
 registered blocks = do
   r ← all_added (record { packages = []; fields = [] }) (map (package_of blocks) (owners blocks))
   Ok (record { fields = r; moves = flat_map (package_moves blocks) (owners blocks) })
 
 -- the fields of a deck: first each field block is read, then the packages are added
-unfoldable pub fields : Blocks → Result Fielded ProblemFault
+unfoldable pub fields : Blocks → Result FieldTable ProblemFault
 fields d = do
   blocks ← each (field_block d) (names_of d (codes "field"))
   registered blocks

@@ -1,6 +1,6 @@
 -- A problem as plain data.
 use Rattle.problem_set.specs.declared.problem.Problem.{Problem}
-use Rattle.problem_set.specs.declared.parts_read.Parts.{Parts}
+use Rattle.problem_set.specs.declared.deck_parts.Parts.{Parts}
 use Rattle.problem_set.specs.Settings.{Settings}
 use Rattle.problem_set.specs.Problems.{settings}
 

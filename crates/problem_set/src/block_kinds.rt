@@ -7,12 +7,11 @@ ghost use Rattle.problem_set.specs.Reading.{Gives};
 ghost use Rattle.problem_set.specs.declared.fault.ProblemFault.TheVariants.{NoMemory as no_memory};
 ghost use Rattle.problem_set.specs.BlockKinds.{names_of, few_of, statics, boxes, reactions, criteria, block_names};
 
+use crate::fault::ProblemFault;
+use crate::words::Mode;
 use input_file::Deck;
 use package_fields::{Items, Name};
 use std::alloc::Global;
-
-use crate::fault::ProblemFault;
-use crate::words::Mode;
 
 /// The names of the blocks of the four kinds that are counted, each in deck order.
 #[derive(Drop)]

@@ -6,16 +6,15 @@ ghost use Rattle.problem_set.specs.Contents.{entries, contents};
 ghost use Rattle.problem_set.specs.Sound.{IsSize};
 ghost use Rattle.problem_set.specs.SoundEntries.{IsMoves, IsStatic, IsBox, IsReaction, IsCriterion, AreEntries};
 
-use input_file::Deck;
-use package_fields::{Items, Registry};
-use std::alloc::Global;
-
-use crate::block_kinds::{find_blocks, BlockNames};
+use crate::block_kinds::{BlockNames, find_blocks};
 use crate::entries::{Criterion, Reaction, StartBox, StaticAt};
 use crate::entry_readers::{read_boxes, read_criteria, read_reactions, read_statics};
 use crate::fault::ProblemFault;
-use crate::packages::{read_fields, Fielded};
+use crate::packages::{FieldTable, read_fields};
 use crate::words::Mode;
+use input_file::Deck;
+use package_fields::{Items, Registry};
+use std::alloc::Global;
 
 /// The blocks of the four kinds that are counted.
 #[derive(Drop)]
@@ -29,7 +28,7 @@ pub struct Entries {
 /// The fields, and the blocks of the four kinds that are counted.
 #[derive(Drop)]
 pub struct Contents {
-    pub fielded: Fielded,
+    pub field_table: FieldTable,
     pub entries: Entries,
 }
 
@@ -46,14 +45,14 @@ pub fn read_contents(
     requires least { 1 ≤ levels }
     requires most { levels ≤ 11 }
     ensures value { Gives result (contents deck.now size mode levels) }
-    ensures as_many { IfOk result (λ c. length c.fielded.moves ≡ length c.fielded.fields.fields) }
-    ensures sound { IfOk result (λ c. All IsMoves c.fielded.moves) }
-    ensures entries { IfOk result (λ c. AreEntries size levels (length c.fielded.fields.fields) c.entries.statics c.entries.boxes c.entries.reactions c.entries.criteria) }
+    ensures as_many { IfOk result (λ c. length c.field_table.moves ≡ length c.field_table.fields.fields) }
+    ensures sound { IfOk result (λ c. All IsMoves c.field_table.moves) }
+    ensures entries { IfOk result (λ c. AreEntries size levels (length c.field_table.fields.fields) c.entries.statics c.entries.boxes c.entries.reactions c.entries.criteria) }
 {
     let names = find_blocks(alloc, deck, mode)?;
-    let fielded = read_fields(alloc, deck)?;
-    let entries = read_entries(alloc, deck, size, levels, &fielded.fields, &names)?;
-    Ok(Contents { fielded, entries })
+    let field_table = read_fields(alloc, deck)?;
+    let entries = read_entries(alloc, deck, size, levels, &field_table.fields, &names)?;
+    Ok(Contents { field_table, entries })
 }
 
 /// Reads the blocks of the four kinds, kind by kind.

@@ -6,15 +6,14 @@ ghost use Rattle.problem_set.specs.Entries.{static_at, start_box, reaction, meth
 ghost use Rattle.problem_set.specs.Sound.{IsSize};
 ghost use Rattle.problem_set.specs.SoundEntries.{IsStatic, IsBox, IsReaction, IsCriterion, greatest_total};
 
+use crate::entries::{Criterion, Reaction, StartBox, StaticAt};
+use crate::fault::ProblemFault;
+use crate::mesh_part::Part;
+use crate::reader::BlockReader;
+use crate::words::Method;
 use input_file::Deck;
 use package_fields::{Items, Name, Registry};
 use std::alloc::Global;
-
-use crate::entries::{Criterion, Reaction, StartBox, StaticAt};
-use crate::fault::ProblemFault;
-use crate::parts::Part;
-use crate::reader::BlockReader;
-use crate::words::Method;
 
 /// Reads the static boxes of these names.
 pub fn read_statics(
@@ -45,11 +44,7 @@ pub fn read_statics(
 
 /// A static box.
 #[tactic(auto, unfolding(crate::specs::Entries::static_at))]
-fn read_static(
-    block: &BlockReader,
-    size: [u32; 3],
-    levels: u32,
-) -> Result<StaticAt, ProblemFault>
+fn read_static(block: &BlockReader, size: [u32; 3], levels: u32) -> Result<StaticAt, ProblemFault>
     requires size { IsSize size }
     requires levels { 1 ≤ levels }
     requires most { levels ≤ 11 }
@@ -134,10 +129,7 @@ pub fn read_reactions(
 
 /// A reaction.
 #[tactic(auto, unfolding(crate::specs::Entries::reaction))]
-fn read_reaction(
-    block: &BlockReader,
-    fields: &Registry,
-) -> Result<Reaction, ProblemFault>
+fn read_reaction(block: &BlockReader, fields: &Registry) -> Result<Reaction, ProblemFault>
     ensures value { Gives result (reaction block.now.deck.now fields.now.fields block.now.block.now) }
     ensures sound { IfOk result (IsReaction (length fields.now.fields)) }
 {

@@ -7,15 +7,14 @@ ghost use Rattle.problem_set.specs.FieldBlocks.{behind_field, field_name, defaul
 ghost use Rattle.problem_set.specs.FieldBlocks.{speeds, entry_amounts, moves, field_block};
 ghost use Rattle.problem_set.specs.SoundEntries.{IsMoves, IsSlow, greatest_total};
 
-use input_file::Deck;
-use package_fields::{has_flag, FieldFault, Flag, Flags, Items, Name};
-use std::alloc::Global;
-
 use crate::entries::Moves;
 use crate::fault::ProblemFault;
 use crate::field_values::{flags_of, ids_of};
 use crate::numbers::is_name;
 use crate::reader::BlockReader;
+use input_file::Deck;
+use package_fields::{FieldFault, Flag, Flags, Items, Name, has_flag};
+use std::alloc::Global;
 
 /// What a block says that declares a field, or the fields of a pool.
 #[derive(Drop)]
@@ -95,10 +94,7 @@ fn read_owner(block: &BlockReader) -> Result<Name, ProblemFault>
 }
 
 #[tactic(auto, unfolding(crate::specs::FieldBlocks::flags_and_ids))]
-fn read_flags_and_ids(
-    block: &BlockReader,
-    name: &Name,
-) -> Result<(Flags, Items<u32>), ProblemFault>
+fn read_flags_and_ids(block: &BlockReader, name: &Name) -> Result<(Flags, Items<u32>), ProblemFault>
     ensures { Gives result (flags_and_ids block.now.deck.now block.now.block.now name.now) }
 {
     let flags = read_flags(block, name)?;
@@ -128,7 +124,12 @@ fn read_flags(block: &BlockReader, name: &Name) -> Result<Flags, ProblemFault>
 fn default_flags(alloc: Global) -> Result<Flags, ProblemFault>
     ensures { Gives result (Ok default_flags) }
 {
-    let flags = vec![in alloc; Flag::Cell, Flag::Independent, Flag::FillGhost, Flag::WithFluxes]?;
+    let flags = vec![in alloc;
+        Flag::Cell,
+        Flag::Independent,
+        Flag::FillGhost,
+        Flag::WithFluxes,
+    ]?;
     Ok(Items::from_vec(flags))
 }
 

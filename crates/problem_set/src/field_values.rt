@@ -4,11 +4,10 @@ ghost use Rattle.std.specs.Prelude.{◌≡◌, ◌≤◌, ◌<◌, [], IfOk, IfN
 ghost use Rattle.problem_set.specs.Words.{flag_named};
 ghost use Rattle.problem_set.specs.FieldValues.{items_of, without_leading_spaces, without_trailing_spaces, each_some, flag_of, flags_of, id_of, rising_after, ids_of};
 
+use crate::numbers::number_of;
 use package_fields::{Flag, Flags, Items};
 use std::alloc::{AllocError, Global};
 use std::collections::BTreeSet;
-
-use crate::numbers::number_of;
 
 /// The texts between commas.
 fn items_of(alloc: Global, text: &str) -> Result<Vec<&str>, AllocError>

@@ -6,11 +6,10 @@ ghost use Rattle.problem_set.specs.Rates.{face_cells, is_inflow, face_inflow, fi
 ghost use Rattle.problem_set.specs.Sound.{IsSize, IsFaces};
 ghost use Rattle.problem_set.specs.SoundEntries.{IsMoves, IsPart, IsBox};
 
-use package_fields::{has_flag, Field, Flag};
-
 use crate::entries::{Moves, StartBox};
 use crate::rates::{field_at, moves_at};
 use crate::words::{FaceKind, Faces};
+use package_fields::{Field, Flag, has_flag};
 
 /// The cells of a part of the mesh along an axis, both ends included.
 fn span(lo: [u32; 3], hi: [u32; 3], axis: u32) -> u128
@@ -100,13 +99,7 @@ fn is_inflow_at(faces: &Faces, i: u32) -> bool
 
 /// What may come in of a field in a stage, which needs ghost zones and fluxes.
 #[tactic(auto, using(crate::proofs::RateLemmas::sum_range_more))]
-fn field_inflow(
-    dims: u32,
-    size: [u32; 3],
-    faces: &Faces,
-    field: &Field,
-    moves: Moves,
-) -> u128
+fn field_inflow(dims: u32, size: [u32; 3], faces: &Faces, field: &Field, moves: Moves) -> u128
     requires size { IsSize size }
     requires faces { IsFaces faces.now }
     requires moves { IsMoves moves }

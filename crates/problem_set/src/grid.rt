@@ -9,8 +9,8 @@ ghost use Rattle.problem_set.specs.Sound.{IsSize, IsFaces};
 ghost use Rattle.problem_set.specs.Sound.{IsCellsAlong, IsCells, IsGrid};
 
 use crate::fault::ProblemFault;
-use crate::words::{FaceKind, Faces};
 use crate::reader::BlockReader;
+use crate::words::{FaceKind, Faces};
 use input_file::Deck;
 use morton_order::Shape;
 use std::alloc::Global;

@@ -16,22 +16,21 @@ mod field_blocks;
 mod field_values;
 mod fitting;
 mod grid;
-
 mod mesh;
 mod numbers;
 mod packages;
-mod parts;
-mod parts_read;
+mod mesh_part;
+mod deck_parts;
 mod problem;
 mod rates;
-mod reading;
 mod reader;
+mod problem_reader;
 mod stepping;
 mod words;
 
 pub use entries::{Criterion, Moves, Reaction, StartBox, StaticAt};
 pub use fault::ProblemFault;
-pub use words::{FaceKind, Faces, Method, Mode};
 pub use problem::Problem;
 pub use rates::Rates;
-pub use reading::read_problem;
+pub use problem_reader::read_problem;
+pub use words::{FaceKind, Faces, Method, Mode};

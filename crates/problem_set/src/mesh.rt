@@ -10,8 +10,8 @@ ghost use Rattle.problem_set.specs.Mesh.{size, refining, mesh_keys, levels_in, i
 ghost use Rattle.problem_set.specs.Sound.{IsSize, IsRefining, IsFaces};
 
 use crate::fault::ProblemFault;
-use crate::words::{FaceKind, Faces, Mode};
 use crate::reader::BlockReader;
+use crate::words::{FaceKind, Faces, Mode};
 use input_file::Deck;
 use package_fields::Items;
 use std::alloc::Global;

@@ -8,27 +8,27 @@ ghost use Rattle.problem_set.specs.FieldBlocks.{field_block, pool_field, lone_fi
 ghost use Rattle.problem_set.specs.Packages.{blocks_of, package_of, moves_of, package_moves, with_added, with_owner, owner_moves, registered, fields};
 ghost use Rattle.problem_set.specs.SoundEntries.{IsMoves};
 
-use input_file::Deck;
-use package_fields::{Field, FieldFault, Fields, Flag, Flags, Items, Name, Package, Registry};
-use package_fields::has_flag;
-use sparse_pool::label_of;
-use std::alloc::Global;
-
 use crate::block_kinds::names_of;
 use crate::entries::Moves;
 use crate::fault::ProblemFault;
-use crate::field_blocks::{read_field_block, FieldBlock};
+use crate::field_blocks::{FieldBlock, read_field_block};
+use input_file::Deck;
+use package_fields::{
+    Field, FieldFault, Fields, Flag, Flags, Items, Name, Package, Registry, has_flag,
+};
+use sparse_pool::label_of;
+use std::alloc::Global;
 
 /// The registry of all fields, and how each field moves, by its number.
 #[derive(Drop)]
-pub struct Fielded {
+pub struct FieldTable {
     pub fields: Registry,
     pub moves: Items<Moves>,
 }
 
 /// Fields and how each of them moves.
 #[derive(Drop)]
-struct Movers {
+struct FieldList {
     fields: Fields,
     moves: Items<Moves>,
 }
@@ -36,60 +36,56 @@ struct Movers {
 /// Adds the fields of a block, where it is of a package.
 fn push_block_if(
     alloc: Global,
-    movers: &mut Movers,
+    list: &mut FieldList,
     block: &FieldBlock,
     owner: &Name,
 ) -> Result<(), ProblemFault>
-    ensures fields { OnOk result (movers.new.fields ≡ movers.old.fields ++ flat_map fields_of (blocks_of (block.now ∷ []) owner.now)) }
-    ensures moves { OnOk result (movers.new.moves ≡ movers.old.moves ++ flat_map moves_of (blocks_of (block.now ∷ []) owner.now)) }
+    ensures fields { OnOk result (list.new.fields ≡ list.old.fields ++ flat_map fields_of (blocks_of (block.now ∷ []) owner.now)) }
+    ensures moves { OnOk result (list.new.moves ≡ list.old.moves ++ flat_map moves_of (blocks_of (block.now ∷ []) owner.now)) }
     ensures fault { IfErr result (λ fault. fault ≡ no_memory) }
 {
     if block.owner.is(owner.as_str()) {
-        push_block(alloc, movers, block)?;
+        push_block(alloc, list, block)?;
     }
     Ok(())
 }
 
 /// Adds the fields of a block.
-fn push_block(
-    alloc: Global,
-    movers: &mut Movers,
-    block: &FieldBlock,
-) -> Result<(), ProblemFault>
-    ensures fields { OnOk result (movers.new.fields ≡ movers.old.fields ++ fields_of block.now) }
-    ensures moves { OnOk result (movers.new.moves ≡ movers.old.moves ++ moves_of block.now) }
+fn push_block(alloc: Global, list: &mut FieldList, block: &FieldBlock) -> Result<(), ProblemFault>
+    ensures fields { OnOk result (list.new.fields ≡ list.old.fields ++ fields_of block.now) }
+    ensures moves { OnOk result (list.new.moves ≡ list.old.moves ++ moves_of block.now) }
     ensures fault { IfErr result (λ fault. fault ≡ no_memory) }
 {
     if has_flag(block.flags.as_slice(), Flag::Sparse) {
-        push_pool(alloc, movers, block)
+        push_pool(alloc, list, block)
     } else {
         let field = lone_field(alloc, &block.name, &block.flags)?;
-        push_mover(movers, field, block.moves)
+        push_field(list, field, block.moves)
     }
 }
 
 /// Adds the fields of a pool.
-fn push_pool(alloc: Global, movers: &mut Movers, block: &FieldBlock) -> Result<(), ProblemFault>
-    ensures fields { OnOk result (movers.new.fields ≡ movers.old.fields ++ map (pool_field block.now.name block.now.flags) block.now.ids) }
-    ensures moves { OnOk result (movers.new.moves ≡ movers.old.moves ++ map (λ id. block.now.moves) block.now.ids) }
+fn push_pool(alloc: Global, list: &mut FieldList, block: &FieldBlock) -> Result<(), ProblemFault>
+    ensures fields { OnOk result (list.new.fields ≡ list.old.fields ++ map (pool_field block.now.name block.now.flags) block.now.ids) }
+    ensures moves { OnOk result (list.new.moves ≡ list.old.moves ++ map (λ id. block.now.moves) block.now.ids) }
     ensures fault { IfErr result (λ fault. fault ≡ no_memory) }
 {
     let ids = block.ids.as_slice();
     for id in ids {
         let field = pool_field(alloc, &block.name, &block.flags, *id)?;
-        push_mover(movers, field, block.moves)?;
+        push_field(list, field, block.moves)?;
     }
     Ok(())
 }
 
 /// Adds a field.
-fn push_mover(movers: &mut Movers, field: Field, moves: Moves) -> Result<(), ProblemFault>
-    ensures fields { OnOk result (movers.new.fields ≡ movers.old.fields ++ field ∷ []) }
-    ensures moves { OnOk result (movers.new.moves ≡ movers.old.moves ++ moves ∷ []) }
+fn push_field(list: &mut FieldList, field: Field, moves: Moves) -> Result<(), ProblemFault>
+    ensures fields { OnOk result (list.new.fields ≡ list.old.fields ++ field ∷ []) }
+    ensures moves { OnOk result (list.new.moves ≡ list.old.moves ++ moves ∷ []) }
     ensures fault { IfErr result (λ fault. fault ≡ no_memory) }
 {
-    movers.fields.push(field)?;
-    movers.moves.push(moves)?;
+    list.fields.push(field)?;
+    list.moves.push(moves)?;
     Ok(())
 }
 
@@ -129,19 +125,19 @@ fn lone_field(alloc: Global, name: &Name, flags: &Flags) -> Result<Field, Proble
 }
 
 /// The fields of a package, in deck order.
-fn gather(alloc: Global, blocks: &[FieldBlock], owner: &Name) -> Result<Movers, ProblemFault>
+fn gather(alloc: Global, blocks: &[FieldBlock], owner: &Name) -> Result<FieldList, ProblemFault>
     ensures fields { IfOk result (λ m. m.fields ≡ flat_map fields_of (blocks_of blocks.now owner.now)) }
     ensures moves { IfOk result (λ m. m.moves ≡ package_moves blocks.now owner.now) }
     ensures fault { IfErr result (λ fault. fault ≡ no_memory) }
 {
-    let mut movers = Movers {
+    let mut list = FieldList {
         fields: Items::new(alloc),
         moves: Items::new(alloc),
     };
     for block in blocks {
-        push_block_if(alloc, &mut movers, block, owner)?;
+        push_block_if(alloc, &mut list, block, owner)?;
     }
-    Ok(movers)
+    Ok(list)
 }
 
 /// Adds the package of an owner.
@@ -155,12 +151,12 @@ fn register_package(
     ensures registry { Answers (λ _. registry.new) result (with_added registry.old (package_of blocks.now owner.now)) }
     ensures moves { OnOk result (moves.new ≡ moves.old ++ package_moves blocks.now owner.now) }
 {
-    let movers = gather(alloc, blocks, owner)?;
+    let list = gather(alloc, blocks, owner)?;
     let name = Name::copy_of(alloc, owner.as_str())?;
-    let Movers {
+    let FieldList {
         fields,
         moves: more,
-    } = movers;
+    } = list;
     add_package(registry, Package { name, fields })?;
     moves.append(more)?;
     Ok(())
@@ -196,7 +192,7 @@ fn register_owner(
 }
 
 /// Adds the packages of all field blocks, in the order in which the blocks first name them.
-fn register(alloc: Global, blocks: &[FieldBlock]) -> Result<Fielded, ProblemFault>
+fn register(alloc: Global, blocks: &[FieldBlock]) -> Result<FieldTable, ProblemFault>
     requires { All (λ b. IsMoves b.moves) blocks.now }
     ensures value { Gives result (registered blocks.now) }
     ensures as_many { IfOk result (λ f. length f.moves ≡ length f.fields.fields) }
@@ -207,12 +203,12 @@ fn register(alloc: Global, blocks: &[FieldBlock]) -> Result<Fielded, ProblemFaul
     for block in blocks {
         register_owner(alloc, &mut fields, &mut moves, blocks, &block.owner)?;
     }
-    Ok(Fielded { fields, moves })
+    Ok(FieldTable { fields, moves })
 }
 
 /// Reads the field blocks of a deck and adds their packages.
 #[tactic(auto, unfolding(crate::specs::Packages::fields))]
-pub fn read_fields(alloc: Global, deck: &Deck) -> Result<Fielded, ProblemFault>
+pub fn read_fields(alloc: Global, deck: &Deck) -> Result<FieldTable, ProblemFault>
     ensures value { Gives result (fields deck.now) }
     ensures as_many { IfOk result (λ f. length f.moves ≡ length f.fields.fields) }
     ensures sound { IfOk result (λ f. All IsMoves f.moves) }

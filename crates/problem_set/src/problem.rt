@@ -4,8 +4,8 @@ ghost use Rattle.problem_set.specs.Sound.{IsSize, IsRefining, IsFaces, IsGrid, I
 ghost use Rattle.problem_set.specs.SoundEntries.{AreFields, AreEntries, HaveFittingRates, HasBound};
 
 use crate::entries::{Criterion, Moves, Reaction, StartBox, StaticAt};
-use crate::words::{Faces, Mode};
 use crate::rates::Rates;
+use crate::words::{Faces, Mode};
 use morton_order::Shape;
 use package_fields::{Flag, Items, Registry};
 

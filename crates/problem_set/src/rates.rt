@@ -9,12 +9,11 @@ ghost use Rattle.problem_set.specs.Rates.{upwards, downwards, velocity, right_ra
 ghost use Rattle.problem_set.specs.Fitting.{rates_fit};
 ghost use Rattle.problem_set.specs.SoundEntries.{IsMoves};
 
-use mesh_num::rate;
-use package_fields::{has_flag, Field, Flag, Name};
-use std::alloc::Global;
-
 use crate::entries::Moves;
 use crate::fault::ProblemFault;
+use mesh_num::rate;
+use package_fields::{Field, Flag, Name, has_flag};
+use std::alloc::Global;
 
 /// The rates at which a field passes a face, over the denominator.
 #[derive(Clone, Copy, Debug)]
@@ -126,7 +125,14 @@ pub fn check_rates(
     ensures { Gives result (rates_fit dims level denominator (zip fields.now moves.now)) }
 {
     for i in 0..fields.len() {
-        check_field(alloc, dims, level, denominator, field_at(fields, i), moves_at(moves, i))?;
+        check_field(
+            alloc,
+            dims,
+            level,
+            denominator,
+            field_at(fields, i),
+            moves_at(moves, i),
+        )?;
     }
     Ok(())
 }

@@ -8,4 +8,4 @@ use Rattle.problem_set.proofs.packages.push_block.Goals as goal
 
 pub returns-then-has_flag-clause-moves : goal.returns-then-has_flag-clause-moves
 returns-then-has_flag-clause-moves c =
-    on_ok_weaker c.push_pool.result (λ e. e ∙ ap (λ (l : List Moves). c.args.movers.now.moves ++ l) (sym (moves_of_pool c.args.block.now (ap (has Sparse) (sym c.as_slice.ensures) ∙ sym c.has_flag.ensures ∙ c.if-has_flag.true)))) c.push_pool.ensures.moves
+    on_ok_weaker c.push_pool.result (λ e. e ∙ ap (λ (l : List Moves). c.args.list.now.moves ++ l) (sym (moves_of_pool c.args.block.now (ap (has Sparse) (sym c.as_slice.ensures) ∙ sym c.has_flag.ensures ∙ c.if-has_flag.true)))) c.push_pool.ensures.moves

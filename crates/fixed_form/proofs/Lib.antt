@@ -1,0 +1,3 @@
+mod Afters
+mod Numerals
+mod Spelled
