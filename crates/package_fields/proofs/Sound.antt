@@ -1,4 +1,4 @@
-use Rattle.std.proofs.Common.{◌≡◌, ◌<◌, ◌≤◌, ◌++◌, ◌∷◌, [], ℕ, Bool, true, false, not, cond, ltb, List, length, map, All, Option, None, Some, refl, sym, ap, ◌∙◌, subst, arith, rules, append_assoc, length-append}
+use Rattle.std.proofs.Common.{◌≡◌, ◌<◌, ◌++◌, ◌∷◌, [], ℕ, Bool, true, false, not, cond, ltb, List, length, Option, None, Some, refl, sym, ◌∙◌, subst, arith, append_assoc, length-append}
 use Rattle.std.specs.Option.{option_or}
 use Rattle.std.specs.List.{list_any, IsDistinct}
 use Rattle.std.specs.Str.{bytes_eq}
@@ -9,10 +9,9 @@ use Rattle.std.proofs.lemmas.Map.Keys.{IsDistinct-push}
 use Rattle.std.proofs.lemmas.Bool.Decides.{nat_tests}
 use Rattle.package_fields.specs.declared.field.Field.{Field}
 use Rattle.package_fields.specs.declared.field.Package.{Package}
-use Rattle.package_fields.specs.declared.fault.FieldFault.{FieldFault}
 use Rattle.package_fields.specs.Flags.{permitted}
 use Rattle.package_fields.specs.Fields.{Registered, IsSound, labels, is_among, has_label}
-use Rattle.package_fields.specs.Registered.{field_fault, fields_fault, package_fault, with_package}
+use Rattle.package_fields.specs.Registered.{field_fault, fields_fault, package_fault}
 
 -- a registry with nothing in it keeps its facts
 pub IsSound-empty : IsSound [] []

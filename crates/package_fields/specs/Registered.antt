@@ -1,4 +1,4 @@
-use Rattle.std.specs.Prelude.{◌≡◌, ◌⊎◌, ◌++◌, ◌∷◌, [], if◌then◌else◌, not, nat_lt, ℕ, List, length, Option, None, Some, Result, Ok, Err}
+use Rattle.std.specs.Prelude.{◌≡◌, ◌⊎◌, ◌++◌, ◌∷◌, [], if◌then◌else◌, not, nat_lt, List, length, Option, None, Some, Result, Ok, Err}
 use Rattle.std.specs.Option.{option_or}
 use Rattle.package_fields.specs.declared.field.Field.{Field}
 use Rattle.package_fields.specs.declared.field.Package.{Package}

@@ -1,8 +1,8 @@
 -- Going over the names of the blocks of a deck.
-use Rattle.std.proofs.Common.{◌≡◌, ◌<◌, ◌+◌, ◌++◌, ◌∷◌, [], ℕ, zero, suc, Bool, true, false, cond, List, length, filter, map, take, slice_get, Option, Some, None, IsSome, option_map, Bor, refl, sym, ap, ◌∙◌, subst, arith}
+use Rattle.std.proofs.Common.{◌≡◌, ◌<◌, ◌+◌, ◌++◌, ◌∷◌, [], ℕ, zero, suc, Bool, true, false, cond, List, length, filter, map, take, Option, Some, None, IsSome, Bor, refl, arith}
 use Rattle.std.specs.Option.{option_copied}
 use Rattle.input_file.specs.Texts.{Text}
-use Rattle.input_file.specs.Blocks.{Blocks, Entries, name_at}
+use Rattle.input_file.specs.Blocks.{Blocks, name_at}
 
 -- the block of an index within the deck is there
 is_some_name : (d : Blocks) (i : ℕ) → i < length d → IsSome (name_at d i)

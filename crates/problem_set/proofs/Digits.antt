@@ -1,5 +1,5 @@
 -- The value of a text of digits is what parsing gives.
-use Rattle.std.proofs.Common.{◌≡◌, ◌≢◌, eqb, None, pos, lit<, ◌<◌, ◌≤◌, ◌^◌, ◌&&◌, ℕ, Bool, true, false, List, [], ◌∷◌, length, Option, Some, Result, Ok, Err, refl, sym, ap, ◌∙◌, arith, rules, cond, nat_lt}
+use Rattle.std.proofs.Common.{◌≡◌, ◌≢◌, eqb, None, pos, lit<, ◌<◌, ◌&&◌, ℕ, Bool, true, false, List, [], ◌∷◌, length, Result, Ok, refl, sym, ap, ◌∙◌, arith, nat_lt}
 use Rattle.std.specs.List.{list_all}
 use Rattle.std.specs.Char.{is_ascii_digit}
 use Rattle.std.specs.Str.{all_ascii_digits}

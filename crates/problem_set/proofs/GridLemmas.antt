@@ -1,11 +1,10 @@
 -- The root blocks of a mesh cover it, and few of them lie along an axis.
-use Rattle.std.proofs.Common.{◌≡◌, ◌≢◌, ◌==◌, ◌<◌, ◌≤◌, ◌+◌, ◌*◌, ◌/◌, ◌%◌, ℕ, zero, suc, Bool, true, false, cond, nat_lt, List, [], ◌∷◌, length, get_or, slice_get, None, refl, sym, ap, ◌∙◌, subst, arith}
+use Rattle.std.proofs.Common.{◌≡◌, ◌==◌, ◌≤◌, ◌*◌, ◌/◌, ℕ, zero, suc, Bool, true, false, cond, nat_lt, List, [], ◌∷◌, get_or, slice_get, None, refl, arith}
 use Rattle.std.proofs.Math.Nat.{mul-le-mul_left, mul_comm}
 use Rattle.std.specs.Prelude.{slice_index}
 use Rattle.std.proofs.lemmas.Bool.Decides.{nat_tests}
-use Rattle.morton_order.specs.Space.{IsShape, IsRootCount}
 use Rattle.problem_set.specs.declared.words.FaceKind.{FaceKind}
-use Rattle.problem_set.specs.Grid.{dims_of, roots_along, shape_of, root_blocks}
+use Rattle.problem_set.specs.Grid.{roots_along, shape_of, root_blocks}
 use Rattle.problem_set.specs.Sound.{IsSize, IsCellsAlong, IsCells, IsGrid}
 
 -- past the end of a list its default is read

@@ -1,5 +1,5 @@
 -- Gathering the fields of packages.
-use Rattle.std.proofs.Common.{◌≡◌, ◌<◌, ◌+◌, ◌++◌, ◌∷◌, [], ◌⊎◌, inl, inr, ℕ, zero, suc, Bool, true, false, cond, not, List, length, get_or, map, filter, take, drop, fold, Option, Some, None, Result, Ok, Err, refl, sym, ap, ◌∙◌, subst, append_assoc, arith, length-append, All, take_all}
+use Rattle.std.proofs.Common.{◌≡◌, ◌<◌, ◌+◌, ◌++◌, ◌∷◌, [], ◌⊎◌, inl, inr, ℕ, Bool, true, false, cond, List, length, get_or, map, filter, take, drop, fold, Option, Some, None, Result, Ok, Err, refl, sym, ap, ◌∙◌, subst, append_assoc, arith, length-append, All, take_all}
 use Rattle.std.specs.List.{flat_map}
 use Rattle.std.specs.Str.{bytes_eq}
 use Rattle.std.proofs.lemmas.List.{append-nil, map-append, take_more, take-append-drop, length-map}
@@ -8,7 +8,6 @@ use Rattle.std.proofs.lemmas.Grind.{flat_map-append}
 use Rattle.input_file.specs.Texts.{Text}
 use Rattle.package_fields.specs.declared.field.Field.{Field}
 use Rattle.package_fields.specs.declared.field.Package.{Package}
-use Rattle.package_fields.specs.declared.flag.Flag.{Flag}
 use Rattle.package_fields.specs.declared.flag.Flag.TheVariants.{Sparse}
 use Rattle.package_fields.specs.Flags.{has}
 use Rattle.package_fields.specs.Fields.{Registered, is_among}
@@ -20,7 +19,6 @@ use Rattle.problem_set.specs.Reading.{◌>>=◌}
 use Rattle.problem_set.specs.SoundEntries.{IsMoves}
 use Rattle.problem_set.specs.FieldBlocks.{pool_field, fields_of}
 use Rattle.problem_set.specs.Packages.{with_name, first_named, blocks_of, package_of, moves_of, package_moves, with_added, all_added, owners, unless, with_owner, owner_moves, registered}
-use Rattle.problem_set.specs.declared.packages.FieldTable.{FieldTable}
 use Rattle.package_fields.specs.declared.fault.FieldFault.{FieldFault}
 use Rattle.package_fields.specs.Registered.{package_fault, with_package}
 

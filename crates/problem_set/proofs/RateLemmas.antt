@@ -1,5 +1,5 @@
 -- Rates and sums.
-use Rattle.std.proofs.Common.{nat_le, ◌⊎◌, inl, inr, ◌≡◌, ◌<◌, ◌≤◌, ◌+◌, ◌*◌, ◌^◌, ◌++◌, ◌∷◌, [], ℕ, zero, suc, Bool, true, false, cond, List, length, get_or, slice_get, map, take, drop, sum, Option, Some, None, Result, Ok, Err, refl, sym, ap, ◌∙◌, subst, arith, All}
+use Rattle.std.proofs.Common.{nat_le, ◌⊎◌, inl, inr, ◌≡◌, ◌<◌, ◌≤◌, ◌+◌, ◌*◌, ◌^◌, ◌++◌, ◌∷◌, [], ℕ, zero, suc, Bool, true, false, cond, List, length, slice_get, take, drop, Some, Ok, Err, refl, sym, ap, ◌∙◌, subst, arith, All}
 use Rattle.std.specs.List.{sum_by, range_with_len, zip}
 use Rattle.std.proofs.Math.Nat.{mul-le-mul, pow-le-pow_right}
 use Rattle.std.proofs.lemmas.List.{drop_all}

@@ -1,9 +1,7 @@
 -- Dropping the spaces around a text.
-use Rattle.std.proofs.Common.{◌≡◌, ◌≢◌, ℕ, Bool, true, false, cond, eqb, List, [], ◌∷◌, ◌++◌, refl, ap, sym, ◌∙◌, arith, subst, reverse, MatchOption, IfNone, Option, Some, None, Bor, lit<, IfSome}
+use Rattle.std.proofs.Common.{◌≡◌, ◌≢◌, ℕ, false, eqb, [], ◌∷◌, ◌++◌, refl, ap, sym, ◌∙◌, arith, reverse, MatchOption, IfNone, Option, Some, None, Bor, IfSome}
 use Rattle.std.proofs.lemmas.List.{reverse-reverse, reverse-append}
 use Rattle.std.proofs.lemmas.Bool.Decides.{nat_tests}
-use Rattle.std.specs.Str.Pattern.{FindsCharPrefix, FindsCharSuffix}
-use Rattle.std.proofs.lemmas.Str.Pattern.{strip_prefix_char, strip_suffix_char}
 use Rattle.input_file.specs.Texts.{Text}
 use Rattle.problem_set.specs.FieldValues.{without_leading_spaces, without_trailing_spaces}
 

@@ -1,5 +1,5 @@
 -- The blocks of a deck that come in any number: kinds, names, counts.
-use Rattle.std.specs.Prelude.{◌++◌, nat_eq, nat_le, ℕ, pos, Bool, List, [], map, filter, length, Result, Ok, Err, codes}
+use Rattle.std.specs.Prelude.{◌++◌, nat_eq, nat_le, ℕ, pos, Bool, List, [], map, filter, length, Result, Ok, codes}
 use Rattle.std.specs.List.{starts_with}
 use Rattle.input_file.specs.Texts.{Text}
 use Rattle.input_file.specs.Blocks.{Blocks}

@@ -1,12 +1,10 @@
 -- What the blocks of a deck that come in any number say, all kinds together.
-use Rattle.std.specs.Prelude.{ℕ, List, Result, Ok, Err}
-use Rattle.input_file.specs.Texts.{Text}
+use Rattle.std.specs.Prelude.{ℕ, List, Result, Ok}
 use Rattle.input_file.specs.Blocks.{Blocks}
 use Rattle.problem_set.specs.declared.fault.ProblemFault.{ProblemFault}
 use Rattle.problem_set.specs.declared.words.Mode.{Mode}
 use Rattle.package_fields.specs.declared.field.Field.{Field}
 use Rattle.problem_set.specs.declared.block_kinds.BlockNames.{BlockNames}
-use Rattle.problem_set.specs.declared.packages.FieldTable.{FieldTable}
 use Rattle.problem_set.specs.declared.contents.Entries.{Entries}
 use Rattle.problem_set.specs.declared.contents.Contents.{Contents}
 use Rattle.problem_set.specs.Reading.{◌>>=◌, each}

@@ -1,5 +1,5 @@
 -- The static boxes, opening boxes, reactions and criteria of a deck.
-use Rattle.std.specs.Prelude.{◌==◌, ◌-◌, nat_le, not, ℕ, Bool, List, [], ◌∷◌, Option, Some, None, Result, Ok, Err, slice_index, position, codes}
+use Rattle.std.specs.Prelude.{◌==◌, ◌-◌, nat_le, not, ℕ, List, [], ◌∷◌, Option, Some, None, Result, Ok, slice_index, position, codes}
 use Rattle.std.specs.Str.{bytes_eq}
 use Rattle.input_file.specs.Texts.{Text}
 use Rattle.input_file.specs.Blocks.{Blocks}

@@ -1,5 +1,5 @@
 -- The blocks that declare fields.
-use Rattle.std.specs.Prelude.{if◌then◌else◌, drop, nat_eq, option_and_then, ℕ, ℤ, pos, Bool, List, [], ◌∷◌, map, Option, Some, None, Result, Ok, Err, codes}
+use Rattle.std.specs.Prelude.{if◌then◌else◌, drop, nat_eq, option_and_then, ℕ, ℤ, pos, List, [], ◌∷◌, map, Option, Some, None, Result, Ok, Err, codes}
 use Rattle.std.specs.List.{starts_with}
 use Rattle.input_file.specs.Texts.{Text}
 use Rattle.input_file.specs.Blocks.{Blocks, entry}

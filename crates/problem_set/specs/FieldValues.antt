@@ -1,9 +1,8 @@
 -- The lists that keys of a field block are set to: flags and ids.
-use Rattle.std.specs.Prelude.{◌==◌, nat_le, if◌then◌else◌, ℕ, Bool, true, false, List, [], ◌∷◌, Option, Some, None, cond, reverse, option_and_then, option_map}
+use Rattle.std.specs.Prelude.{◌==◌, nat_le, if◌then◌else◌, ℕ, List, [], ◌∷◌, Option, Some, None, cond, reverse, option_and_then, option_map}
 use Rattle.std.specs.List.{list_any, slice_split}
 use Rattle.std.specs.Ordering.{nat_cmp}
 use Rattle.std.specs.BTreeSet.{insert_key}
-use Rattle.std.specs.Str.{byte}
 use Rattle.input_file.specs.Texts.{Text}
 use Rattle.package_fields.specs.declared.flag.Flag.{Flag}
 use Rattle.problem_set.specs.Numbers.{number_of}

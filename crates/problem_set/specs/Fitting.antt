@@ -1,10 +1,9 @@
 -- Whether the rates of all fields and the sum of all totals fit.
-use Rattle.std.specs.Prelude.{◌-◌, nat_le, if◌then◌else◌, ℕ, Bool, List, [], ◌∷◌, Option, Some, None, Result, Ok, Err}
+use Rattle.std.specs.Prelude.{nat_le, if◌then◌else◌, ℕ, List, [], ◌∷◌, Result, Ok, Err}
 use Rattle.package_fields.specs.declared.field.Field.{Field}
 use Rattle.problem_set.specs.declared.fault.ProblemFault.{ProblemFault}
-use Rattle.problem_set.specs.declared.fault.ProblemFault.TheVariants.{Rates, Bound}
+use Rattle.problem_set.specs.declared.fault.ProblemFault.TheVariants.{Rates}
 use Rattle.problem_set.specs.declared.entries.Moves.{Moves}
-use Rattle.problem_set.specs.Reading.{only_if}
 use Rattle.problem_set.specs.Rates.{rate_sum}
 
 -- nothing, where the rates of each field at a level add up to at most the denominator; else the first that do not

@@ -1,5 +1,5 @@
 -- The keys of the blocks of the mesh, and the lattice of root blocks that follows.
-use Rattle.std.specs.Prelude.{◌==◌, ◌&&◌, ◌*◌, ◌/◌, ◌%◌, nat_le, nat_lt, if◌then◌else◌, ℕ, pos, Bool, true, false, List, [], ◌∷◌, Option, Some, None, Result, Ok, Err, slice_index, codes}
+use Rattle.std.specs.Prelude.{◌==◌, ◌&&◌, ◌*◌, ◌/◌, ◌%◌, nat_le, nat_lt, if◌then◌else◌, ℕ, pos, Bool, List, [], ◌∷◌, Some, Result, Ok, slice_index, codes}
 use Rattle.std.specs.List.{slice_index_or}
 use Rattle.input_file.specs.Texts.{Text}
 use Rattle.input_file.specs.Blocks.{Blocks}

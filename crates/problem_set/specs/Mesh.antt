@@ -1,5 +1,5 @@
 -- The keys of the mesh: its size, how it is refined, and its faces.
-use Rattle.std.specs.Prelude.{◌==◌, ◌&&◌, nat_le, ℕ, ℤ, pos, negsuc, Bool, true, false, List, [], ◌∷◌, ◌++◌, Option, Some, None, Result, Ok, Err, codes}
+use Rattle.std.specs.Prelude.{◌==◌, ◌&&◌, nat_le, ℕ, ℤ, pos, negsuc, Bool, true, false, List, [], ◌∷◌, ◌++◌, Option, Some, None, Result, Ok, codes}
 use Rattle.input_file.specs.Texts.{Text}
 use Rattle.input_file.specs.Blocks.{Blocks}
 use Rattle.problem_set.specs.declared.words.Mode.{Mode}

@@ -1,10 +1,9 @@
 -- The packages of a deck, and the registry of their fields.
-use Rattle.std.specs.Prelude.{if◌then◌else◌, ◌++◌, ℕ, Bool, List, [], ◌∷◌, map, filter, fold, Option, Some, None, Result, Ok, Err, codes}
+use Rattle.std.specs.Prelude.{if◌then◌else◌, ◌++◌, List, [], ◌∷◌, map, filter, fold, Option, Some, None, Result, Ok, Err, codes}
 use Rattle.std.specs.List.{flat_map}
 use Rattle.std.specs.Str.{bytes_eq}
 use Rattle.input_file.specs.Texts.{Text}
 use Rattle.input_file.specs.Blocks.{Blocks}
-use Rattle.package_fields.specs.declared.field.Field.{Field}
 use Rattle.package_fields.specs.declared.field.Package.{Package}
 use Rattle.package_fields.specs.declared.fault.FieldFault.{FieldFault}
 use Rattle.package_fields.specs.Fields.{Registered, is_among}

@@ -1,5 +1,5 @@
 -- The problem that a deck gives, or the first fault.
-use Rattle.std.specs.Prelude.{◌-◌, nat_le, ℕ, Result, Ok, Err}
+use Rattle.std.specs.Prelude.{◌-◌, nat_le, ℕ, Result, Ok}
 use Rattle.std.specs.List.{zip}
 use Rattle.input_file.specs.Blocks.{Blocks}
 use Rattle.problem_set.specs.declared.fault.ProblemFault.{ProblemFault}

@@ -1,5 +1,5 @@
 -- The rates of a field, and what they add up to.
-use Rattle.std.specs.Prelude.{◌+◌, ◌*◌, ◌-◌, ◌/◌, ◌&&◌, nat_lt, if◌then◌else◌, ℕ, zero, suc, ℤ, pos, negsuc, Bool, true, false, length, List, [], ◌∷◌, sum_by, slice_index}
+use Rattle.std.specs.Prelude.{◌+◌, ◌*◌, ◌-◌, ◌/◌, ◌&&◌, nat_lt, if◌then◌else◌, ℕ, zero, suc, ℤ, pos, negsuc, Bool, true, false, length, List, sum_by, slice_index}
 use Rattle.std.specs.List.{slice_index_or, range_with_len, zip}
 use Rattle.mesh_num.specs.Rate.{rate}
 use Rattle.package_fields.specs.declared.field.Field.{Field}

@@ -1,5 +1,5 @@
 -- The forms of a row: what is read at a key of a block.
-use Rattle.std.specs.Prelude.{◌==◌, ◌&&◌, ◌||◌, nat_le, unsigned_abs, ℕ, ℤ, pos, Bool, List, Option, Some, None, Result, Ok, Err}
+use Rattle.std.specs.Prelude.{◌==◌, ◌&&◌, ◌||◌, nat_le, unsigned_abs, ℕ, ℤ, pos, Bool, Option, Some, None, Result}
 use Rattle.input_file.specs.Texts.{Text}
 use Rattle.input_file.specs.Blocks.{Blocks, entry}
 use Rattle.problem_set.specs.declared.fault.ProblemFault.{ProblemFault}

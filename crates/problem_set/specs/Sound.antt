@@ -1,8 +1,7 @@
 -- What holds of the parts of every problem.
-use Rattle.std.specs.Prelude.{◌≡◌, ◌==◌, ◌≤◌, ◌<◌, ◌^◌, ◌*◌, ◌%◌, ℕ, Bool, List, length, slice_index, Option}
+use Rattle.std.specs.Prelude.{◌≡◌, ◌≤◌, ◌*◌, ◌%◌, ℕ, List, length, slice_index}
 use Rattle.std.specs.List.{slice_index_or}
 use Rattle.std.specs.Option.{ForSome}
-use Rattle.problem_set.specs.declared.words.Mode.{Mode}
 use Rattle.problem_set.specs.declared.words.FaceKind.{FaceKind}
 use Rattle.problem_set.specs.declared.words.FaceKind.TheVariants.{Periodic}
 use Rattle.problem_set.specs.declared.mesh.Refining.{Refining}

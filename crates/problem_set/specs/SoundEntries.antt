@@ -1,5 +1,5 @@
 -- What holds of the blocks of a problem that come in any number.
-use Rattle.std.specs.Prelude.{◌≡◌, ◌≢◌, ◌≤◌, ◌<◌, ◌^◌, ◌-◌, ◌+◌, ◌*◌, nat_le, ℕ, ℤ, pos, Bool, true, List, length, slice_index, sum, All, unsigned_abs}
+use Rattle.std.specs.Prelude.{◌≡◌, ◌≢◌, ◌≤◌, ◌<◌, ◌-◌, ℕ, ℤ, pos, List, length, slice_index, All, unsigned_abs}
 use Rattle.std.specs.List.{slice_index_or, zip}
 use Rattle.package_fields.specs.Fields.{Registered, IsSound}
 use Rattle.package_fields.specs.declared.field.Field.{Field}

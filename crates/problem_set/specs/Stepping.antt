@@ -1,5 +1,5 @@
 -- The keys of time, of sparse fields and of the whole numbers.
-use Rattle.std.specs.Prelude.{ℕ, Option, Some, None, Result, Ok, Err, codes}
+use Rattle.std.specs.Prelude.{ℕ, Some, None, Result, Ok, codes}
 use Rattle.input_file.specs.Texts.{Text}
 use Rattle.input_file.specs.Blocks.{Blocks}
 use Rattle.problem_set.specs.declared.fault.ProblemFault.{ProblemFault}

@@ -52,7 +52,10 @@ pub fn read_contents(
     let names = find_blocks(alloc, deck, mode)?;
     let field_table = read_fields(alloc, deck)?;
     let entries = read_entries(alloc, deck, size, levels, &field_table.fields, &names)?;
-    Ok(Contents { field_table, entries })
+    Ok(Contents {
+        field_table,
+        entries,
+    })
 }
 
 /// Reads the blocks of the four kinds, kind by kind.

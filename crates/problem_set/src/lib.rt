@@ -9,6 +9,7 @@
 
 mod block_kinds;
 mod contents;
+mod deck_parts;
 mod entries;
 mod entry_readers;
 mod fault;
@@ -17,20 +18,19 @@ mod field_values;
 mod fitting;
 mod grid;
 mod mesh;
+mod mesh_part;
 mod numbers;
 mod packages;
-mod mesh_part;
-mod deck_parts;
 mod problem;
+mod problem_reader;
 mod rates;
 mod reader;
-mod problem_reader;
 mod stepping;
 mod words;
 
 pub use entries::{Criterion, Moves, Reaction, StartBox, StaticAt};
 pub use fault::ProblemFault;
 pub use problem::Problem;
-pub use rates::Rates;
 pub use problem_reader::read_problem;
+pub use rates::Rates;
 pub use words::{FaceKind, Faces, Method, Mode};

@@ -9,12 +9,12 @@ ghost use Rattle.problem_set.specs.Problems.{bound_of, fitting, problem};
 ghost use Rattle.problem_set.specs.SettingsOf.{parts_settings, settings_of};
 
 use crate::contents::{Contents, Entries};
+use crate::deck_parts::Parts;
 use crate::fault::ProblemFault;
 use crate::fitting::{boxes_total, stage_inflow};
 use crate::grid::Grid;
 use crate::mesh::Mesh;
 use crate::packages::FieldTable;
-use crate::deck_parts::Parts;
 use crate::problem::Problem;
 use crate::rates::check_rates;
 use input_file::Deck;
@@ -111,7 +111,10 @@ fn problem_of(parts: Parts) -> Problem
         faces,
     } = mesh;
     let Grid { shape, cells } = grid;
-    let Contents { field_table, entries } = contents;
+    let Contents {
+        field_table,
+        entries,
+    } = contents;
     let FieldTable { fields, moves } = field_table;
     let Entries {
         statics,

@@ -1,4 +1,4 @@
-use Rattle.std.proofs.Common.{◌≡◌, ◌++◌, ◌∷◌, [], nat_eq, filter, ap, sym, ◌∙◌, List, ℕ}
+use Rattle.std.proofs.Common.{◌++◌, ◌∷◌, [], nat_eq, filter, ap, sym, ◌∙◌, List, ℕ}
 use Rattle.std.specs.List.{starts_with}
 use Rattle.problem_set.proofs.BlockLemmas.{filter_more}
 use Rattle.problem_set.proofs.block_kinds.names_after.Goals as goal

@@ -1,4 +1,3 @@
-use Rattle.std.proofs.Common.{length}
 use Rattle.problem_set.specs.Entries.{static_at}
 use Rattle.problem_set.specs.SoundEntries.{IsStatic}
 use Rattle.problem_set.proofs.Loops.{IsReadTo}

@@ -1,5 +1,4 @@
 use Rattle.std.proofs.Common.{◌∙◌, ap, sym, map, Some, List, ℕ, Bor}
-use Rattle.package_fields.specs.declared.flag.Flag.{Flag}
 use Rattle.problem_set.specs.FieldValues.{id_of}
 use Rattle.problem_set.proofs.EachSome.{each_some_more}
 use Rattle.problem_set.proofs.field_values.ids_named.Goals as goal

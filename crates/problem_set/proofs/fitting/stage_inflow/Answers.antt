@@ -1,4 +1,4 @@
-use Rattle.std.proofs.Common.{◌≡◌, ◌≤◌, length, take, arith, ap, ◌∙◌}
+use Rattle.std.proofs.Common.{◌≤◌, length, arith, ap, ◌∙◌}
 use Rattle.std.specs.List.{sum_by, zip}
 use Rattle.std.proofs.lemmas.List.{take_all}
 use Rattle.package_fields.specs.declared.field.Field.{Field}

@@ -1,4 +1,4 @@
-use Rattle.std.proofs.Common.{◌≡◌, length, take, sym, ap, ◌∙◌, subst, arith}
+use Rattle.std.proofs.Common.{◌≡◌, length, sym, ap, arith}
 use Rattle.std.proofs.lemmas.Result.{err_from_is_err_and}
 use Rattle.problem_set.specs.declared.field_blocks.FieldBlock.{FieldBlock}
 use Rattle.problem_set.proofs.Owned.{register_step, register_stop, register_all}

@@ -1,4 +1,3 @@
-use Rattle.std.proofs.Common.{rules}
 use Rattle.package_fields.proofs.Sound.{IsSound-empty}
 use Rattle.package_fields.proofs.registry.Registry.new.Goals as goal
 
