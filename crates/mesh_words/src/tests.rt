@@ -1,0 +1,83 @@
+//! What no contract says: that the calls succeed, and what clap makes of words that are written out.
+use crate::{Words, WordsFault, read_words};
+use std::alloc::{AllocError, Global};
+use std::test::Fail;
+
+fn words_of(alloc: Global, line: &str) -> Result<Vec<String>, AllocError> {
+    let mut words = Vec::new(alloc);
+    for word in line.split_whitespace() {
+        words.push(String::from_str(alloc, word)?)?;
+    }
+    Ok(words)
+}
+
+fn fault_of(alloc: Global, line: &str) -> Result<Option<WordsFault>, AllocError> {
+    let words = words_of(alloc, line)?;
+    Ok(read_words(alloc, words.as_slice()).err())
+}
+
+fn says(words: &Words<'_>, input: &str, prefix: &str, workers: u32, prints_deck: bool) -> bool {
+    words.input == input
+        && words.prefix == prefix
+        && words.workers == workers
+        && words.prints_deck == prints_deck
+}
+
+#[test]
+fn the_first_rule_refuses(rt: HostRuntime) -> Result<(), Fail> {
+    let rows = [
+        ("", WordsFault::NoInput),
+        ("-l", WordsFault::NoInput),
+        ("-i", WordsFault::NotTheCommand),
+        ("-i f -i f", WordsFault::NotTheCommand),
+        ("-i f -n -n", WordsFault::NotTheCommand),
+        ("-i f -w -1", WordsFault::NotTheCommand),
+        ("-i f -x", WordsFault::NotTheCommand),
+        ("--help", WordsFault::NotTheCommand),
+        ("-h", WordsFault::NotTheCommand),
+        ("-i f -g 1 -l -w 0", WordsFault::TwoInputs),
+        ("-i f -l -w 0", WordsFault::Large),
+        ("-i f -w 0 -d=", WordsFault::Workers),
+        ("-i f -w 65", WordsFault::Workers),
+        ("-i f -w 00000000001", WordsFault::Workers),
+        ("-i f -w 1x", WordsFault::Workers),
+        ("-g 2147483648", WordsFault::Seed),
+        ("-i f -d=", WordsFault::Prefix),
+        ("-g 2147483647 -l", WordsFault::NotBuilt),
+        ("-i f -t", WordsFault::NotBuilt),
+    ];
+    for (line, fault) in rows {
+        assert_eq!(rt; fault_of(rt.alloc(), line)?, Some(fault));
+    }
+    Ok(())
+}
+
+#[test]
+fn words_say_what_they_give(rt: HostRuntime) -> Result<(), Fail> {
+    let rows = [
+        ("-i f", "f", "mesh", 1, false),
+        ("-i=f", "f", "mesh", 1, false),
+        ("-if a/b=1", "f", "mesh", 1, false),
+        ("a/b=1 -n -i - c", "-", "mesh", 1, true),
+        ("-w 64 -d out -ni f", "f", "out", 64, true),
+        ("-i f -w 0000000007 -- -x", "f", "mesh", 7, false),
+    ];
+    for (line, input, prefix, workers, prints_deck) in rows {
+        let list = words_of(rt.alloc(), line)?;
+        match read_words(rt.alloc(), list.as_slice()) {
+            Ok(words) => assert!(rt; says(&words, input, prefix, workers, prints_deck)),
+            Err(_) => assert!(rt; false),
+        }
+    }
+    Ok(())
+}
+
+#[test]
+fn overrides_come_in_order(rt: HostRuntime) -> Result<(), Fail> {
+    let list = words_of(rt.alloc(), "a/b=1 -i f c -- -i")?;
+    match read_words(rt.alloc(), list.as_slice()) {
+        Ok(words) => assert_eq!(rt; words.overrides.as_slice(), ["a/b=1", "c", "-i"].as_slice()),
+        Err(_) => assert!(rt; false),
+    }
+    Ok(())
+}
