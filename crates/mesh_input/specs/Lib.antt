@@ -1,0 +1,5 @@
+pub mod Answers
+pub mod Inputs
+pub mod Lines
+pub mod Statuses
+pub mod Stops

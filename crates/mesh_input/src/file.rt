@@ -1,0 +1,31 @@
+ghost use Rattle.std.specs.Prelude.{◌≡◌, ℕ, ◌≤◌, List, map};
+ghost use Rattle.mesh_input.specs.Answers.{AnswersFile, HasReadCause};
+
+use crate::accept::{Input, accept_bytes};
+use crate::fault::{InputFault, stop_of_reading};
+use mesh_outside::{Depot, read_input};
+use std::alloc::Global;
+
+/// The greatest number of bytes that a deck may have.
+const LIMIT: usize = 1_048_576;
+
+/// The input that a file of a depot and the overrides give. The file is read in pieces, and of a
+/// longer one than a deck may be no more than shows it. Nothing is written.
+pub fn accept_file<D: Depot>(
+    alloc: Global,
+    depot: &mut D,
+    name: &str,
+    overrides: &[&str],
+) -> Result<Input, InputFault>
+    ensures answer { AnswersFile (D.inputs depot.old) name.now (map (λ t. t.now) overrides.now) result }
+    ensures inputs { D.inputs depot.new ≡ D.inputs depot.old }
+    ensures written { D.written depot.new ≡ D.written depot.old }
+    ensures read_cause { HasReadCause (D.read_faults depot.old name.now) (D.read_faults depot.new name.now) result }
+    ensures reads_later { (other : List ℕ) → D.read_faults depot.old other ≤ D.read_faults depot.new other }
+    ensures writes_later { D.write_faults depot.old ≤ D.write_faults depot.new }
+{
+    match read_input(alloc, depot, name, LIMIT) {
+        Ok(bytes) => accept_bytes(alloc, bytes.as_slice(), overrides),
+        Err(fault) => Err(stop_of_reading(fault)),
+    }
+}
