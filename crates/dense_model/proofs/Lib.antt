@@ -1,9 +1,3 @@
-mod Advance
-mod Conserved
-mod Faces
-mod Opening
-mod RunLemmas
-mod Texts
 pub mod Looks
 pub mod Portions
 pub mod Flips
@@ -15,3 +9,20 @@ pub mod Adjacent
 pub mod Balances
 pub mod Conserves
 pub mod NextTree
+mod RowFacts
+mod RowSteps
+mod ProblemFacts
+mod AddedAmounts
+mod RowMesh
+mod RowRuns
+mod Built
+mod RunReads
+mod RowSums
+mod FieldBounds
+mod RunBounds
+mod Loops
+mod CycleSteps
+mod RowDump
+mod DumpReads
+mod LawFacts
+mod FileSteps

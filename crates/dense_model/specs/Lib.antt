@@ -16,6 +16,10 @@ pub mod Run
 pub mod Texts
 pub mod Worked
 pub mod WorkedChanges
-pub mod OneBlock
-pub mod OneBlockDump
-pub mod OneBlockRun
+pub mod OfProblem
+pub mod RunFiles
+pub mod Rows
+pub mod RowRun
+pub mod RowTexts
+pub mod RunLaws
+pub mod FileList

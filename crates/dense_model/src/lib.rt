@@ -1,22 +1,28 @@
 //! The dense run: every field on every block, advanced stage by stage.
 //!
 //! - `specs/` defines meshes, the look, stages, reactions, tags, masks and the run over cycles, for one to three axes.
-//! - The functions of `laws` and `worked` carry laws of these definitions: they have empty bodies, and their contracts
-//!   are proved.
-//! - `BlockRun` runs one block with one field between reflecting faces: it keeps one list of totals
-//!   and changes it in place. Its dumps are those of the definitions, which speak of faces and looks.
+//! - `DenseRun` runs a problem of one block along one axis. It keeps one row of totals a field, and changes it in
+//!   place; its dumps are those of the definitions, which speak of faces and looks.
+//! - The functions of `laws`, `run_laws` and `worked` carry laws of the definitions and of every run: they have empty
+//!   bodies, and their contracts are proved.
 #![tactic(auto)]
 
+mod dense_dump;
+mod dense_run;
+mod dump_file;
+mod fault;
+mod field_row;
 mod laws;
-mod one_block;
-mod one_block_dump;
-mod one_block_laws;
-mod one_block_stage;
+mod of_problem;
+mod row_stage;
+mod run_laws;
 mod worked;
 
+pub use dense_dump::dump_file_name;
+pub use dense_run::DenseRun;
+pub use dump_file::DumpFile;
+pub use fault::DenseFault;
 pub use laws::{conservation_law, look_law, next_tree_law, pay_law};
-pub use one_block::BlockRun;
-pub use one_block_dump::dump_name;
-pub use one_block_laws::{no_total_falls_below_zero, the_sum_stays, worked_row};
-pub use one_block_stage::{FacePair, Rates};
+pub use of_problem::is_built;
+pub use run_laws::totals_stay_within;
 pub use worked::{worked_changes, worked_stages};

@@ -1,1 +1,3 @@
-mod Accepting
+pub mod Causes
+pub mod Ending
+pub mod OwnStatus

@@ -1,60 +1,54 @@
--- How a call of the program ends, and what its depot has gained then.
-use Rattle.std.specs.Prelude.{◌≡◌, ℕ, ◌⊎◌, List, Option, Some, None, IsSome}
-use Rattle.fixed_form.specs.declared.form.FirstForm.{FirstForm}
-use Rattle.fixed_form.specs.Form.{IsForm, text_of}
+-- How a call ends, and what its depot has gained then.
+use Rattle.std.specs.Prelude.{◌≡◌, ℕ, ◌⊎◌, List, Option, Result, Ok, Err}
+use Rattle.input_file.specs.Texts.{Text}
+use Rattle.problem_set.specs.Settings.{Settings}
 use Rattle.mesh_outside.specs.declared.files.File.{File}
 use Rattle.mesh_outside.specs.declared.files.Gained.{Gained}
-use Rattle.mesh_outside.specs.Files.{input_of}
 use Rattle.mesh_outside.specs.Gained.{Gains, GainsCut}
-use Rattle.mesh_driver.specs.FormFiles.{files_of}
-use Rattle.mesh_cli.specs.declared.status.Status.{Status}
-use Rattle.mesh_cli.specs.declared.status.Status.TheVariants.{Done, Usage, Refused, ReadFault, WriteFault, NoMemory}
+use Rattle.mesh_words.specs.Accepted.{Accepted as Said, words_of}
+use Rattle.mesh_words.specs.declared.fault.WordsFault.{WordsFault}
+use Rattle.mesh_input.specs.declared.outcome.Outcome.{Outcome}
+use Rattle.mesh_input.specs.declared.outcome.Outcome.TheVariants.{Done, Listed, Usage, Refused, ReadFault, WriteFault, NoMemory}
+use Rattle.mesh_driver.specs.Files.{end_of, files_of}
+use Rattle.mesh_cli.specs.Verdicts.{Verdict, runs, lists, refused, ComesTo}
 
--- the file of this name has these bytes, where the depot tells its inputs
-abbrev pub HasInput : Option (List File) → List ℕ → List ℕ → Type 0
-HasInput None name bytes = Unit {0}
-HasInput (Some files) name bytes = input_of files name ≡ Some bytes
+-- the run of a problem: all its files are gained, or writing stopped among them
+abbrev pub RunEnds : Settings → List ℕ → Outcome → Type 0 → Option (List Gained) → Option (List Gained) → Type 0
+RunEnds p prefix (Done cycles blocks total) write_rose old new = (record { cycles = cycles; blocks = blocks; total = total } ≡ end_of p) × Gains old new (files_of p prefix)
+RunEnds p prefix WriteFault write_rose old new = write_rose × GainsCut old new (files_of p prefix)
+RunEnds p prefix NoMemory write_rose old new = GainsCut old new (files_of p prefix)
+RunEnds p prefix (Listed deck) write_rose old new = ⊥
+RunEnds p prefix (Usage fault) write_rose old new = ⊥
+RunEnds p prefix (Refused refusal) write_rose old new = ⊥
+RunEnds p prefix ReadFault write_rose old new = ⊥
 
--- the file of this name spells this form
-pub record Spells (inputs : Option (List File)) (name : List ℕ) (form : FirstForm) : Type 0 where
-  pub is_form : IsForm form
-  pub spelled : HasInput inputs name (text_of form)
+-- a problem that is run ends as its run does; where a deck is listed, or an input refused, nothing is gained
+abbrev pub EndsBy : List ℕ → Verdict → Outcome → Type 0 → Option (List Gained) → Option (List Gained) → Type 0
+EndsBy prefix (runs p) outcome write_rose old new = RunEnds p prefix outcome write_rose old new
+EndsBy prefix (lists deck) outcome write_rose old new = (outcome ≡ Listed deck) × (new ≡ old)
+EndsBy prefix (refused refusal) outcome write_rose old new = (outcome ≡ Refused refusal) × (new ≡ old)
 
--- the file of this name spells no form
-pub record SpellsNone (inputs : Option (List File)) (name : List ℕ) : Type 0 where
-  pub bytes : List ℕ
-  pub are_there : HasInput inputs name bytes
-  pub no_form : (form : FirstForm) → IsForm form → bytes ≡ text_of form → ⊥
+-- the file was not read, or memory ran out before its input was accepted: nothing is gained
+abbrev pub EndsUnread : Outcome → Type 0 → Option (List Gained) → Option (List Gained) → Type 0
+EndsUnread ReadFault read_rose old new = read_rose × (new ≡ old)
+EndsUnread NoMemory read_rose old new = new ≡ old
+EndsUnread (Done cycles blocks total) read_rose old new = ⊥
+EndsUnread (Listed deck) read_rose old new = ⊥
+EndsUnread (Usage fault) read_rose old new = ⊥
+EndsUnread (Refused refusal) read_rose old new = ⊥
+EndsUnread WriteFault read_rose old new = ⊥
 
--- the run of an accepted form: all its files are gained, or writing stopped among them
-abbrev pub EndsAccepted : Status → FirstForm → Option (List Gained) → Option (List Gained) → Type 0
-EndsAccepted Done form old new = Gains old new (files_of form)
-EndsAccepted WriteFault form old new = GainsCut old new (files_of form)
-EndsAccepted NoMemory form old new = GainsCut old new (files_of form)
-EndsAccepted _ form old new = ⊥
+-- the call ended as what its words and the file come to says
+pub record EndsJudged (said : Said) (outcome : Outcome) (inputs : Option (List File)) (write_rose : Type 0) (old new : Option (List Gained)) : Type 0 where
+  pub verdict : Verdict
+  pub comes_to : ComesTo inputs said verdict
+  pub ends : EndsBy said.prefix verdict outcome write_rose old new
 
--- the named file spells a form, and its run ended with this status
-pub record EndsForm (status : Status) (inputs : Option (List File)) (name : List ℕ) (old new : Option (List Gained)) : Type 0 where
-  pub form : FirstForm
-  pub spells : Spells inputs name form
-  pub ends : EndsAccepted status form old new
+-- a call whose words are accepted; a fault of reading only where that count of faults rose, and so for a fault of writing
+abbrev pub EndsAccepted : Said → Outcome → Option (List File) → Type 0 → Type 0 → Option (List Gained) → Option (List Gained) → Type 0
+EndsAccepted said outcome inputs read_rose write_rose old new = EndsUnread outcome read_rose old new ⊎ EndsJudged said outcome inputs write_rose old new
 
--- where the words name a file: before its form is accepted nothing is gained
-abbrev pub EndsRun : Status → Option (List File) → List ℕ → Option (List Gained) → Option (List Gained) → Type 0
-EndsRun Done inputs name old new = EndsForm Done inputs name old new
-EndsRun Usage inputs name old new = ⊥
-EndsRun Refused inputs name old new = SpellsNone inputs name × (new ≡ old)
-EndsRun ReadFault inputs name old new = new ≡ old
-EndsRun WriteFault inputs name old new = EndsForm WriteFault inputs name old new
-EndsRun NoMemory inputs name old new = (new ≡ old) ⊎ EndsForm NoMemory inputs name old new
-
--- where the words name no file, the status is Usage, and nothing is gained
-abbrev pub Ends : Status → Option (List ℕ) → Option (List File) → Option (List Gained) → Option (List Gained) → Type 0
-Ends status None inputs old new = (status ≡ Usage) × (new ≡ old)
-Ends status (Some name) inputs old new = EndsRun status inputs name old new
-
--- a told input that spells a form is run to its end, but for want of memory, where no count of faults rose
-abbrev pub Completes : Status → Option (List ℕ) → Option (List File) → (List ℕ → Type 0) → Type 0 → Type 0
-Completes status named inputs read_rose write_rose =
-    (name : List ℕ) (form : FirstForm) → named ≡ Some name → IsSome inputs → Spells inputs name form
-    → (read_rose name → ⊥) → (write_rose → ⊥) → (status ≡ Done) ⊎ (status ≡ NoMemory)
+-- any call: words that are refused end it, with nothing gained
+abbrev pub EndsWith : Result Said WordsFault → Outcome → Option (List File) → (List ℕ → Type 0) → Type 0 → Option (List Gained) → Option (List Gained) → Type 0
+EndsWith (Ok said) outcome inputs read_rose write_rose old new = EndsAccepted said outcome inputs (read_rose said.input) write_rose old new
+EndsWith (Err fault) outcome inputs read_rose write_rose old new = ((outcome ≡ Usage fault) ⊎ (outcome ≡ NoMemory)) × (new ≡ old)

@@ -1,3 +1,5 @@
-pub mod Codes
+pub mod Causes
 pub mod Ends
-pub mod Words
+pub mod Outcomes
+pub mod Printing
+pub mod Verdicts

@@ -1,12 +1,16 @@
-//! The top call: from the words of the command line to the files of a run, with its status.
+//! The top call: from the words of the command line to the files of a run, one printed line, and a
+//! status.
 //!
-//! - `mesh_plain` reads the file that the words name, runs what it spells, and writes the files.
-//! - `Status` is how that ended; the program ends with its number.
+//! - `mesh_plain` reads the words, the file that they name with its overrides, and the problem; it
+//!   lists the deck or runs the problem, and prints how that ended. The first step that refuses decides.
+//! - `report` prints how a call ended, for a caller that could not get so far.
+//! - `Status` is the status of a call; the program ends with its number.
 #![tactic(auto)]
 
 mod plain;
-mod status;
-mod words;
+mod run;
+mod telling;
 
+pub use mesh_input::{Outcome, Status};
 pub use plain::mesh_plain;
-pub use status::Status;
+pub use telling::report;

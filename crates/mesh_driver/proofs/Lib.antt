@@ -1,3 +1,2 @@
 pub mod Cycles
-pub mod Dumps
 pub mod Gaining

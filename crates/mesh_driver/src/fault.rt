@@ -1,3 +1,4 @@
+use dense_model::DenseFault;
 use mesh_num::NoMemory;
 use mesh_outside::OutFault;
 use thiserror::Error;
@@ -35,5 +36,18 @@ impl From<NoMemory> for DriveFault {
 
     fn from(_none: NoMemory) -> DriveFault {
         DriveFault::NoMemory
+    }
+}
+
+impl From<DenseFault> for DriveFault {
+    ghost use Rattle.std.specs.Prelude.{◌≡◌};
+    ghost use Rattle.mesh_driver.specs.declared.fault.DriveFault.TheVariants.{NoMemory};
+
+    ghost from_gives = { λ _ stop. stop ≡ NoMemory };
+
+    fn from(fault: DenseFault) -> DriveFault {
+        match fault {
+            DenseFault::NoMemory => DriveFault::NoMemory,
+        }
     }
 }

@@ -1,10 +1,11 @@
-//! The run of a mesh into a depot: each cycle's files, one after another.
+//! The run of a problem into a depot: the dumps of its cycles, one file after another.
 //!
-//! - `drive_form` runs one block of one field by the first form, and writes the dump of each cycle.
+//! - `drive` runs a problem to its last cycle, and writes a dump at the opening, at each cycle whose
+//!   number is a multiple of the problem's `dump_every`, and at the last cycle.
 #![tactic(auto)]
 
 mod fault;
-mod form_run;
+mod run;
 
 pub use fault::DriveFault;
-pub use form_run::drive_form;
+pub use run::{RunEnd, drive};

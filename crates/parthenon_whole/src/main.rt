@@ -2,23 +2,21 @@
 //! call that does the work.
 #![tactic(auto)]
 
-use mesh_cli::{Status, mesh_plain};
+use mesh_cli::{Outcome, mesh_plain, report};
 use mesh_outside::{FileDepot, StdSink};
+use mesh_words::WordsFault;
 use std::process::ExitCode;
 use std::rt::Env;
 use std::{env, io};
 
 fn main(rt: HostRuntime) -> ExitCode {
+    let mut out = StdSink::new(&rt);
     let status = match words(&rt) {
         Ok(words) => {
             let mut depot = FileDepot::new(&rt);
-            let mut out = StdSink::new(&rt);
             mesh_plain(rt.alloc(), words.as_slice(), &mut depot, &mut out)
         }
-        Err(error) => match error.kind() {
-            io::ErrorKind::InvalidData => Status::Usage,
-            _ => Status::NoMemory,
-        },
+        Err(error) => report(rt.alloc(), &without_words(&error), &mut out),
     };
     ExitCode::from(status.code())
 }
@@ -30,4 +28,15 @@ fn words<R: Env + AllocGlobal>(rt: &R) -> io::Result<Vec<String>> {
         words.push(word)?;
     }
     Ok(words)
+}
+
+// How the program ends where its words cannot be had: as with words that are not the command's where
+// one is not UTF-8, and else for want of memory.
+fn without_words(error: &io::Error) -> Outcome {
+    match error.kind() {
+        io::ErrorKind::InvalidData => Outcome::Usage {
+            fault: WordsFault::NotTheCommand,
+        },
+        _ => Outcome::NoMemory,
+    }
 }

@@ -1,61 +1,127 @@
-use crate::inputs;
-use mesh_cli::{Status, mesh_plain};
-use mesh_outside::{Fail, Fails, MemDepot, MemSink};
+use crate::calls::{call, call_failing, failing};
+use crate::decks::{ONE_BLOCK, dump};
+use mesh_cli::Status;
+use mesh_outside::{Fail, Fails};
 use std::test::Fail as TestFail;
 
-// Words and the numbers of the deck, and the status of each; nothing is written.
+const ROWS: [&str; 3] = ["8 0 0 0", "6 2 0 0", "5 3 0 0"];
+
 #[test]
-fn what_is_refused_writes_nothing(rt: HostRuntime) -> Result<(), TestFail> {
+fn an_absent_file_is_a_read_fault(rt: HostRuntime) -> Result<(), TestFail> {
+    let called = call(rt.alloc(), &["-i", "absent"], ONE_BLOCK.as_bytes())?;
+    assert_eq!(rt; called.status, Status::ReadFault);
+    assert_eq!(rt; called.status.code(), 3);
+    assert_eq!(rt; called.out.printed(), b"read fault\n".as_slice());
+    assert_eq!(rt; called.depot.written().len(), 0);
+    Ok(())
+}
+
+// The call that fails, the status with its line, and what is there then: whole dumps, and bytes of
+// the next one.
+#[test]
+fn a_failing_call_leaves_what_was_written(rt: HostRuntime) -> Result<(), TestFail> {
     let alloc = rt.alloc();
-    let none: [&str; 0] = [];
-    let rows: [(&[&str], u32, Status, u8); 7] = [
-        (&none, 1, Status::Usage, 1),
-        (&["deck"], 1, Status::Usage, 1),
-        (&["-i"], 1, Status::Usage, 1),
-        (&["-i", "deck", "deck"], 1, Status::Usage, 1),
-        (&["-d", "deck"], 1, Status::Usage, 1),
-        (&["-i", "deck"], 5, Status::Refused, 2),
-        (&["-i", "absent"], 1, Status::ReadFault, 3),
+    let rows: [(Fail, Status, &str, usize, Option<usize>); 12] = [
+        (Fail::Read(1), Status::ReadFault, "read fault\n", 0, None),
+        (Fail::Read(2), Status::ReadFault, "read fault\n", 0, None),
+        (Fail::Begin(1), Status::WriteFault, "write fault\n", 0, None),
+        (Fail::Begin(2), Status::WriteFault, "write fault\n", 1, None),
+        (Fail::Begin(3), Status::WriteFault, "write fault\n", 2, None),
+        (
+            Fail::AppendOf(1),
+            Status::WriteFault,
+            "write fault\n",
+            0,
+            Some(66),
+        ),
+        (
+            Fail::AppendOf(2),
+            Status::WriteFault,
+            "write fault\n",
+            1,
+            Some(66),
+        ),
+        (
+            Fail::AppendOf(3),
+            Status::WriteFault,
+            "write fault\n",
+            2,
+            Some(66),
+        ),
+        (
+            Fail::Finish(1),
+            Status::WriteFault,
+            "write fault\n",
+            0,
+            Some(133),
+        ),
+        (
+            Fail::Finish(2),
+            Status::WriteFault,
+            "write fault\n",
+            1,
+            Some(133),
+        ),
+        (
+            Fail::Finish(3),
+            Status::WriteFault,
+            "write fault\n",
+            2,
+            Some(133),
+        ),
+        (
+            Fail::Begin(4),
+            Status::Done,
+            "done cycles=2 blocks=1 total=8\n",
+            3,
+            None,
+        ),
     ];
-    for (texts, v1, expected, code) in rows {
-        let words = inputs::words(alloc, texts)?;
-        let files = inputs::input(alloc, "deck", inputs::deck(alloc, 2, v1)?)?;
-        let mut depot = MemDepot::new(alloc, files, 1000, Fails::new(alloc));
-        let mut out = MemSink::new(alloc, 0);
-        let status = mesh_plain(alloc, words.as_slice(), &mut depot, &mut out);
-        assert_eq!(rt; status, expected);
-        assert_eq!(rt; status.code(), code);
-        assert_eq!(rt; depot.written().len(), 0);
+    for (fail, status, line, whole, part) in rows {
+        let fails = failing(alloc, fail)?;
+        let called = call_failing(alloc, &["-i", "deck"], ONE_BLOCK.as_bytes(), fails, 0)?;
+        assert_eq!(rt; called.status, status);
+        assert_eq!(rt; called.out.printed(), line.as_bytes());
+        let written = called.depot.written();
+        let count = match part {
+            Some(_) => whole.saturating_add(1),
+            None => whole,
+        };
+        assert_eq!(rt; written.len(), count);
+        for (cycle, row) in ROWS.iter().enumerate().take(count) {
+            let file = written.get(cycle).ok_or("a file is missing")?;
+            let text = dump(alloc, cycle as u32, *row)?;
+            assert_eq!(rt; file.whole, cycle < whole);
+            assert!(rt; text.as_bytes().starts_with(file.bytes.as_bytes()));
+            let length = match part {
+                Some(length) if cycle >= whole => length,
+                _ => text.len(),
+            };
+            assert_eq!(rt; file.bytes.as_bytes().len(), length);
+        }
     }
     Ok(())
 }
 
-// The call that fails, the status, and what is there then: whole dumps, and bytes of the next one.
+// The first print fails: all files are there.
 #[test]
-fn a_failing_call_leaves_what_was_written(rt: HostRuntime) -> Result<(), TestFail> {
+fn a_failing_print_leaves_all_files(rt: HostRuntime) -> Result<(), TestFail> {
     let alloc = rt.alloc();
-    let rows = [
-        (Fail::Read(1), Status::ReadFault, 0, None),
-        (Fail::Read(2), Status::ReadFault, 0, None),
-        (Fail::Begin(1), Status::WriteFault, 0, None),
-        (Fail::Begin(2), Status::WriteFault, 1, None),
-        (Fail::Begin(3), Status::WriteFault, 2, None),
-        (Fail::AppendOf(1), Status::WriteFault, 0, Some(66)),
-        (Fail::AppendOf(2), Status::WriteFault, 1, Some(66)),
-        (Fail::AppendOf(3), Status::WriteFault, 2, Some(66)),
-        (Fail::Finish(1), Status::WriteFault, 0, Some(133)),
-        (Fail::Finish(2), Status::WriteFault, 1, Some(133)),
-        (Fail::Finish(3), Status::WriteFault, 2, Some(133)),
-        (Fail::Begin(4), Status::Done, 3, None),
-    ];
-    for (fail, expected, whole, part) in rows {
-        let words = inputs::words(alloc, &["-i", "deck"])?;
-        let files = inputs::input(alloc, "deck", inputs::deck(alloc, 2, 1)?)?;
-        let mut depot = MemDepot::new(alloc, files, 100, inputs::failing(alloc, fail)?);
-        let mut out = MemSink::new(alloc, 0);
-        let status = mesh_plain(alloc, words.as_slice(), &mut depot, &mut out);
-        assert_eq!(rt; status, expected);
-        inputs::check_files(&rt, alloc, depot.written(), whole, part)?;
+    let called = call_failing(
+        alloc,
+        &["-i", "deck"],
+        ONE_BLOCK.as_bytes(),
+        Fails::new(alloc),
+        1,
+    )?;
+    assert_eq!(rt; called.status, Status::PrintFault);
+    assert_eq!(rt; called.status.code(), 7);
+    assert_eq!(rt; called.out.printed().len(), 0);
+    let written = called.depot.written();
+    assert_eq!(rt; written.len(), 3);
+    for at in 0..3 {
+        let file = written.get(at).ok_or("a file is missing")?;
+        assert!(rt; file.whole);
     }
     Ok(())
 }

@@ -2,10 +2,18 @@
 #![tactic(auto)]
 
 #[cfg(test)]
+mod calls;
+#[cfg(test)]
+mod decks;
+#[cfg(test)]
 mod faults;
 #[cfg(test)]
-mod inputs;
+mod lines;
+#[cfg(test)]
+mod listing;
 #[cfg(test)]
 mod outside;
 #[cfg(test)]
 mod runs;
+#[cfg(test)]
+mod words;

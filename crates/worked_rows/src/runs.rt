@@ -1,22 +1,126 @@
-use crate::inputs;
+use crate::calls::{call, check_file, input, words, words_with};
+use crate::decks::{ONE_BLOCK, dump, many_fields, many_fields_dump};
 use mesh_cli::{Status, mesh_plain};
-use mesh_outside::{Fails, MemDepot, MemSink, SureDepot};
+use mesh_outside::{MemSink, SureDepot};
 use std::test::Fail as TestFail;
 
-// Cycles, pieces of a read, and what the run writes: each cycle's dump, byte for byte.
+// Overrides of the deck, the cycles that are dumped with their rows, and the printed line.
 #[test]
-fn a_run_writes_each_cycles_dump(rt: HostRuntime) -> Result<(), TestFail> {
+fn a_run_writes_its_dumps_and_one_line(rt: HostRuntime) -> Result<(), TestFail> {
     let alloc = rt.alloc();
-    for (nlim, piece, dumps) in [(2, 1000, 3), (2, 1, 3), (3, 7, 4), (0, 1000, 1)] {
-        let words = inputs::words(alloc, &["-i", "deck"])?;
-        let files = inputs::input(alloc, "deck", inputs::deck(alloc, nlim, 1)?)?;
-        let mut depot = MemDepot::new(alloc, files, piece, Fails::new(alloc));
-        let mut out = MemSink::new(alloc, 0);
-        let status = mesh_plain(alloc, words.as_slice(), &mut depot, &mut out);
-        assert_eq!(rt; status, Status::Done);
-        assert_eq!(rt; status.code(), 0);
-        inputs::check_files(&rt, alloc, depot.written(), dumps, None)?;
-        assert_eq!(rt; out.printed().len(), 0);
+    let rows: [(&[&str], &[(u32, &str)], &str); 9] = [
+        (
+            &[],
+            &[(0, "8 0 0 0"), (1, "6 2 0 0"), (2, "5 3 0 0")],
+            "done cycles=2 blocks=1 total=8\n",
+        ),
+        (
+            &["parthenon/time/nlim=0"],
+            &[(0, "8 0 0 0")],
+            "done cycles=0 blocks=1 total=8\n",
+        ),
+        (
+            &["parthenon/time/nlim=3", "whole/dump_every=2"],
+            &[(0, "8 0 0 0"), (2, "5 3 0 0"), (3, "4 4 0 0")],
+            "done cycles=3 blocks=1 total=8\n",
+        ),
+        (
+            &["whole/nstages=3", "parthenon/time/nlim=1"],
+            &[(0, "8 0 0 0"), (1, "4 4 0 0")],
+            "done cycles=1 blocks=1 total=8\n",
+        ),
+        (
+            &[
+                "parthenon/mesh/ix1_bc=periodic",
+                "parthenon/mesh/ox1_bc=periodic",
+                "box/0/lo1=3",
+                "box/0/hi1=3",
+                "parthenon/time/nlim=1",
+            ],
+            &[(0, "0 0 0 8"), (1, "2 0 0 6")],
+            "done cycles=1 blocks=1 total=8\n",
+        ),
+        (
+            &[
+                "parthenon/mesh/ix1_bc=inflow",
+                "parthenon/mesh/ox1_bc=outflow",
+                "field/a/ix1_in=9",
+                "box/0/lo1=3",
+                "box/0/hi1=3",
+                "parthenon/time/nlim=1",
+            ],
+            &[(0, "0 0 0 8"), (1, "2 0 0 6")],
+            "done cycles=1 blocks=1 total=8\n",
+        ),
+        (
+            &[
+                "parthenon/mesh/ix1_bc=inflow",
+                "parthenon/mesh/ox1_bc=outflow",
+                "field/a/ix1_in=8",
+                "box/0/lo1=3",
+                "box/0/hi1=3",
+            ],
+            &[(0, "0 0 0 8"), (1, "2 0 0 6"), (2, "4 0 0 5")],
+            "done cycles=2 blocks=1 total=9\n",
+        ),
+        (
+            &[
+                "parthenon/mesh/ix1_bc=inflow",
+                "parthenon/mesh/ox1_bc=outflow",
+                "field/a/ix1_in=8",
+                "box/0/amount=0",
+                "parthenon/time/nlim=1",
+            ],
+            &[(0, ""), (1, "2 0 0 0")],
+            "done cycles=1 blocks=1 total=2\n",
+        ),
+        (
+            &[
+                "field/a/v1=0",
+                "box/0/amount=4611686018427387903",
+                "parthenon/time/nlim=1",
+            ],
+            &[
+                (0, "4611686018427387903 0 0 0"),
+                (1, "4611686018427387903 0 0 0"),
+            ],
+            "done cycles=1 blocks=1 total=4611686018427387903\n",
+        ),
+    ];
+    for (overrides, dumps, line) in rows {
+        let words = words_with(alloc, overrides)?;
+        let called = call(alloc, words.as_slice(), ONE_BLOCK.as_bytes())?;
+        assert_eq!(rt; called.status, Status::Done);
+        assert_eq!(rt; called.out.printed(), line.as_bytes());
+        assert_eq!(rt; called.depot.written().len(), dumps.len());
+        for (at, (cycle, row)) in dumps.iter().enumerate() {
+            let name = format!(in alloc; "mesh.00000{}.dump", *cycle)?;
+            let text = dump(alloc, *cycle, *row)?;
+            check_file(
+                &rt,
+                called.depot.written(),
+                at,
+                name.as_str(),
+                text.as_str(),
+            )?;
+        }
+    }
+    Ok(())
+}
+
+#[test]
+fn each_field_of_a_deck_is_in_its_dumps(rt: HostRuntime) -> Result<(), TestFail> {
+    let alloc = rt.alloc();
+    let deck = many_fields(alloc, 256)?;
+    let called = call(alloc, &["-d", "out/many", "-i", "deck"], deck.as_bytes())?;
+    assert_eq!(rt; called.status, Status::Done);
+    assert_eq!(rt; called.depot.written().len(), 2);
+    for (at, name) in ["out/many.000000.dump", "out/many.000001.dump"]
+        .iter()
+        .enumerate()
+    {
+        let text = many_fields_dump(alloc, at as u32, 256)?;
+        check_file(&rt, called.depot.written(), at, *name, text.as_str())?;
     }
     Ok(())
 }
@@ -24,20 +128,20 @@ fn a_run_writes_each_cycles_dump(rt: HostRuntime) -> Result<(), TestFail> {
 #[test]
 fn a_sure_depot_takes_the_run(rt: HostRuntime) -> Result<(), TestFail> {
     let alloc = rt.alloc();
-    let words = inputs::words(alloc, &["-i", "deck"])?;
-    let files = inputs::input(alloc, "deck", inputs::deck(alloc, 2, 1)?)?;
+    let words = words(alloc, &["-i", "deck"])?;
+    let files = input(alloc, "deck", ONE_BLOCK.as_bytes())?;
     let mut depot = SureDepot::new(alloc, files, 5);
     let mut out = MemSink::new(alloc, 0);
     let status = mesh_plain(alloc, words.as_slice(), &mut depot, &mut out);
     assert_eq!(rt; status, Status::Done);
-    inputs::check_files(&rt, alloc, depot.written(), 3, None)?;
+    assert_eq!(rt; depot.written().len(), 3);
     Ok(())
 }
 
 // The dump that is printed whole where the format is described: 133 bytes.
 #[test]
 fn the_opening_dump_is_the_printed_one(rt: HostRuntime) -> Result<(), TestFail> {
-    let text = inputs::dump(rt.alloc(), 0, "8 0 0 0")?;
+    let text = dump(rt.alloc(), 0, "8 0 0 0")?;
     assert_eq!(rt; text.len(), 133);
     assert_eq!(rt;
         text.as_str(),

@@ -1,0 +1,5 @@
+use Rattle.dense_model.proofs.CycleSteps.{at_start}
+use Rattle.dense_model.proofs.dense_run.DenseRun.start.Goals as goal
+
+pub invariant_of-result : goal.invariant_of-result
+invariant_of-result c = at_start c.args.problem.now c.in_ok-rows.rows.items c.requires c.in_ok-rows.ensures

@@ -1,0 +1,6 @@
+use Rattle.std.proofs.Common.{◌≡◌}
+use Rattle.dense_model.specs.Rows.{rows_later}
+use Rattle.dense_model.proofs.dense_run.advance.Given as goal
+
+abbrev pub invariant-loop-stage : goal.invariant-loop-stage
+invariant-loop-stage l = l.rows.items ≡ rows_later l.stage l.initial.rows.items

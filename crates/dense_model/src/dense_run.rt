@@ -1,0 +1,238 @@
+ghost use Rattle.std.specs.Prelude.{◌≡◌, ◌+◌, ◌-◌, ◌++◌, ◌<◌, ◌≤◌, ◌↔◌, IfOk, OnOk, OnErr, IsTrue, true, string_bytes, map, length, All, ℕ, ◌^◌};
+ghost use Rattle.problem_set.specs.SettingsOf.{settings_of};
+ghost use Rattle.dense_model.specs.OfProblem.{is_built, rules_of};
+ghost use Rattle.dense_model.specs.Rows.{IsReady, row_next, rows_later, row_sum, sum_all};
+ghost use Rattle.dense_model.specs.RowRun.{states_of, opening_rows, empty_states, totals_in};
+ghost use Rattle.dense_model.specs.RunFiles.{dump_after, dumps_at, files_until, is_dumped, leaves_after, total_after};
+
+use crate::dense_dump;
+use crate::dump_file::DumpFile;
+use crate::fault::DenseFault;
+use crate::field_row::FieldRow;
+use crate::of_problem::moving_at;
+use mesh_num::NoMemory;
+use package_fields::{Items, Name};
+use problem_set::Problem;
+use std::alloc::Global;
+use std::marker::Model;
+
+/// The dense run of a problem, after some of its cycles: every field in every cell of every block.
+#[derive(Drop)]
+pub struct DenseRun<'a> {
+    problem: &'a Problem,
+    cycle: u32,
+    rows: Vec<FieldRow>,
+}
+
+impl<'a> Model for DenseRun<'a> {
+    ghost use Rattle.problem_set.specs.SettingsOf.{settings_of};
+    ghost use Rattle.dense_model.specs.RunFiles.{RunAt};
+    ghost use Rattle.dense_model.specs.RowRun.{IsRunAt};
+
+    ghost Value = { RunAt };
+
+    ghost view = { λ r. record { problem = settings_of r.problem.now; cycle = r.cycle } };
+
+    ghost invariant = { λ r. IsRunAt (settings_of r.problem.now) r.cycle r.rows.items };
+}
+
+impl<'a> DenseRun<'a> {
+    ghost use Rattle.dense_model.specs.FileList.{name_and_text};
+
+    /// The run before its first cycle: each cell has the amounts of the boxes that hold it.
+    pub fn start(alloc: Global, problem: &'a Problem) -> Result<DenseRun<'a>, DenseFault>
+        requires { is_built (settings_of problem.now) ≡ true }
+        ensures { IfOk result (λ run. run ≡ record { problem = settings_of problem.now; cycle = 0 }) }
+    {
+        let rows = opening_rows(alloc, problem)?;
+        Ok(DenseRun {
+            problem,
+            cycle: 0,
+            rows,
+        })
+    }
+
+    /// How many cycles were run.
+    pub fn cycles(&self) -> u32
+        ensures value { result ≡ self.now.cycle }
+        ensures within { result ≤ self.now.problem.nlim }
+    {
+        self.cycle
+    }
+
+    /// Whether all cycles of the problem were run.
+    pub fn is_finished(&self) -> bool
+        ensures finished { IsTrue result ↔ (self.now.cycle ≡ self.now.problem.nlim) }
+        ensures within { self.now.cycle ≤ self.now.problem.nlim }
+    {
+        self.cycle == self.problem.nlim
+    }
+
+    /// Runs one more cycle, in place. It never fails while trees do not change.
+    pub fn cycle(&mut self) -> Result<(), DenseFault>
+        requires { self.old.cycle < self.old.problem.nlim }
+        ensures next { self.new ≡ record self.old { cycle = self.old.cycle + 1 } }
+        ensures done { OnErr result ⊥ }
+    {
+        advance(&mut self.rows, self.problem.nstages);
+        self.cycle += 1;
+        Ok(())
+    }
+
+    /// The text of the dump after the cycles that were run.
+    pub fn dump(&self) -> Result<Vec<u8>, NoMemory>
+        ensures { IfOk result (λ text. text.items ≡ dump_after self.now.problem self.now.cycle) }
+    {
+        let alloc = *self.rows.allocator();
+        dense_dump::text(alloc, self.problem, self.rows.as_slice(), self.cycle)
+    }
+
+    /// The files so far, in order: the dumps of the cycles that have one.
+    pub fn files(&self, prefix: &str) -> Result<Items<DumpFile>, NoMemory>
+        ensures { IfOk result (λ files. map name_and_text files ≡ files_until self.now.problem prefix.now self.now.cycle) }
+    {
+        let alloc = *self.rows.allocator();
+        let mut run = restart(alloc, self.problem)?;
+        let mut files = Items::new(alloc);
+        for cycle in 0..self.cycle {
+            run.push_dump(prefix, &mut files)?;
+            let _ = run.cycle();
+        }
+        run.push_dump(prefix, &mut files)?;
+        Ok(files)
+    }
+
+    /// Adds the dump after the cycles that were run, where there is one.
+    fn push_dump(&self, prefix: &str, files: &mut Items<DumpFile>) -> Result<(), NoMemory>
+        ensures { OnOk result (map name_and_text files.new ≡ map name_and_text files.old ++ dumps_at self.now.problem prefix.now self.now.cycle) }
+    {
+        if !is_dumped(self.problem, self.cycle) {
+            return Ok(());
+        }
+        let alloc = *self.rows.allocator();
+        let name = dense_dump::dump_file_name(alloc, prefix, self.cycle)?;
+        let text = self.dump()?;
+        files.push(DumpFile {
+            name: Name::of(name),
+            text,
+        })?;
+        Ok(())
+    }
+
+    /// How many leaves there are.
+    pub fn leaves(&self) -> u32
+        ensures { result ≡ leaves_after self.now.problem self.now.cycle }
+    {
+        let _ = &self.rows;
+        1
+    }
+
+    /// What all totals of all fields add up to.
+    pub fn total(&self) -> u64
+        ensures value { result ≡ total_after self.now.problem self.now.cycle }
+        ensures within { result ≤ 2 ^ 62 - 1 }
+    {
+        sum_of_rows(self.rows.as_slice())
+    }
+}
+
+/// The run before its first cycle.
+fn restart<'a>(alloc: Global, problem: &'a Problem) -> Result<DenseRun<'a>, NoMemory>
+    requires { is_built (settings_of problem.now) ≡ true }
+    ensures { IfOk result (λ run. run ≡ record { problem = settings_of problem.now; cycle = 0 }) }
+{
+    match DenseRun::start(alloc, problem) {
+        Ok(run) => Ok(run),
+        Err(DenseFault::NoMemory) => Err(NoMemory),
+    }
+}
+
+/// Whether a dump follows a cycle.
+fn is_dumped(problem: &Problem, cycle: u32) -> bool
+    ensures { result ≡ is_dumped (settings_of problem.now) cycle }
+{
+    cycle % problem.dump_every == 0 || cycle == problem.nlim
+}
+
+/// The rows at the start.
+fn opening_rows(alloc: Global, problem: &Problem) -> Result<Vec<FieldRow>, NoMemory>
+    requires { is_built (settings_of problem.now) ≡ true }
+    ensures { IfOk result (λ rows. rows.items ≡ states_of (settings_of problem.now) (opening_rows (settings_of problem.now))) }
+{
+    let mut rows = empty_rows(alloc, problem)?;
+    fill_boxes(&mut rows, problem);
+    Ok(rows)
+}
+
+/// A row for each field, with nothing in its cells.
+fn empty_rows(alloc: Global, problem: &Problem) -> Result<Vec<FieldRow>, NoMemory>
+    ensures { IfOk result (λ rows. rows.items ≡ empty_states (settings_of problem.now)) }
+{
+    let mut rows = Vec::new(alloc);
+    for field in 0..problem.moves.len() {
+        let moving = moving_at(problem, field);
+        let row = FieldRow::zeros(alloc, problem.cells[0] as usize, moving)?;
+        rows.push(row)?;
+    }
+    Ok(rows)
+}
+
+/// Adds the amounts of the boxes to the cells that they hold.
+fn fill_boxes(rows: &mut Vec<FieldRow>, problem: &Problem)
+    requires built { is_built (settings_of problem.now) ≡ true }
+    requires empty { rows.old.items ≡ empty_states (settings_of problem.now) }
+    ensures { rows.new.items ≡ states_of (settings_of problem.now) (opening_rows (settings_of problem.now)) }
+{
+    for start_box in problem.boxes.as_slice() {
+        let row = &mut rows[start_box.field as usize];
+        row.add(
+            start_box.lo[0] as usize,
+            start_box.hi[0] as usize,
+            start_box.amount,
+        );
+    }
+}
+
+/// That many stages, in place.
+fn advance(rows: &mut Vec<FieldRow>, stages: u32)
+    requires { (k : ℕ) → k < stages → All IsReady (rows_later k rows.old.items) }
+    ensures { rows.new.items ≡ rows_later stages rows.old.items }
+{
+    for stage in 0..stages {
+        advance_once(rows);
+    }
+}
+
+/// One stage of every row, in place.
+fn advance_once(rows: &mut Vec<FieldRow>)
+    requires { All IsReady rows.old.items }
+    ensures { rows.new.items ≡ map row_next rows.old.items }
+{
+    for row in rows.iter_mut() {
+        row.advance();
+    }
+}
+
+/// What all totals of some rows add up to.
+fn sum_of_rows(rows: &[FieldRow]) -> u64
+    requires { sum_all (totals_in rows.now) < 2 ^ 64 }
+    ensures { result ≡ sum_all (totals_in rows.now) }
+{
+    let mut sum = 0;
+    for row in rows {
+        sum += sum_of_row(row.cells());
+    }
+    sum
+}
+
+/// What the totals of a row add up to.
+fn sum_of_row(cells: &[u64]) -> u64
+    requires { row_sum cells.now < 2 ^ 64 }
+    ensures { result ≡ row_sum cells.now }
+{
+    let mut sum = 0;
+    for total in cells {
+        sum += *total;
+    }
+    sum
+}

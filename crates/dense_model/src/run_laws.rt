@@ -1,0 +1,10 @@
+//! Laws of every run of a problem that is built, from the facts of the problem alone.
+
+ghost use Rattle.dense_model.specs.RunLaws.{NoTotalFallsBelowZero, NoSumPassesTheBound};
+
+/// In every stage of every cycle a cell pays at most what it has, and the sum of all totals of all
+/// fields stays at most 2^62 - 1, with what flows in.
+pub fn totals_stay_within()
+    ensures paid { NoTotalFallsBelowZero }
+    ensures bounded { NoSumPassesTheBound }
+{}

@@ -1,3 +1,0 @@
-mod Afters
-mod Numerals
-mod Spelled

@@ -1,0 +1,61 @@
+// The decks of the runs, and the dumps of one row of four cells.
+use std::alloc::{AllocError, Global};
+
+/// Four cells between reflecting faces, with 8 in the first, of which each cell gives a fourth to the
+/// right in a cycle.
+pub const ONE_BLOCK: &str =
+    "<parthenon/mesh>\nnx1 = 4\nix1_bc = reflecting\nox1_bc = reflecting\n<parthenon/time>\nnlim = 2\n<whole>\ndenominator = 4\ndump_every = 1\n<field/a>\nv1 = 1\n<box/0>\nfield = a\nlo1 = 0\nhi1 = 0\namount = 8\n";
+
+/// Two dyes in a square, laid out after an input of Parthenon.
+pub const TWO_DYES: &str =
+    "# two dyes in a square, laid out after a Parthenon input\n<parthenon/job>\nproblem_id = advection\n\n<parthenon/mesh>\nrefinement = adaptive\nnumlevel = 3\nnx1 = 64\nx1min = -0.5\nx1max = 0.5\nix1_bc = periodic\nox1_bc = periodic\nnx2 = 64\nx2min = -0.5\nx2max = 0.5\nix2_bc = periodic\nox2_bc = periodic\nnx3 = 1\n\n<parthenon/meshblock>\nnx1 = 16\nnx2 = 16\nnx3 = 1\n\n<parthenon/time>\nnlim = 20\ntlim = 1.0        # not read here\nintegrator = rk2  # not read here\n\n<parthenon/output0>\nfile_type = hdf5\ndt = 0.05\n\n<parthenon/sparse>\ndealloc_count = 5\n\n<Advection>\ncfl = 0.45\n\n<field/dye>\nflags = Cell, Independent, FillGhost, WithFluxes, Sparse\nids = 1,2\nv1 = 10\nv2 = 10\n\n<box/first>\nfield = dye_1\nlo1 = 8\nhi1 = 15\nlo2 = 8\nhi2 = 15\namount = 100\n\n<box/second>\nfield = dye_2\nlo1 = 40\nhi1 = 47\nlo2 = 40\nhi2 = 47\namount = 50\n";
+
+/// The dump of a cycle of one field in four cells: this row, or none where all are zero.
+pub fn dump(alloc: Global, cycle: u32, row: &str) -> Result<String, AllocError> {
+    let mut text = String::from_str(alloc, "parthenon-whole dump 1\n")?;
+    write!(text, "cycle {cycle}\n")?;
+    text.push_str("dims 1 cells 4 1 1 root 1 1 1\nfields 1\na\nblocks 1\n")?;
+    if row.is_empty() {
+        text.push_str("block 0 level 0 at 0 0 0 zero 1\nend\n")?;
+        return Ok(text);
+    }
+    text.push_str("block 0 level 0 at 0 0 0 zero 0\nfield a\n")?;
+    write!(text, "{row}\nend\n")?;
+    Ok(text)
+}
+
+/// A deck of four cells with that many fields and nothing in them.
+pub fn many_fields(alloc: Global, count: u32) -> Result<String, AllocError> {
+    let mut text = String::from_str(
+        alloc,
+        "<parthenon/mesh>\nnx1 = 4\n<parthenon/time>\nnlim = 1\n",
+    )?;
+    for field in 0..count {
+        write!(text, "<field/f{field}>\nv1 = 1\n")?;
+    }
+    Ok(text)
+}
+
+/// The dump of a cycle of that deck.
+pub fn many_fields_dump(alloc: Global, cycle: u32, count: u32) -> Result<String, AllocError> {
+    let mut text = String::from_str(alloc, "parthenon-whole dump 1\n")?;
+    write!(text, "cycle {cycle}\n")?;
+    text.push_str("dims 1 cells 4 1 1 root 1 1 1\n")?;
+    write!(text, "fields {count}\n")?;
+    for field in 0..count {
+        write!(text, "f{field}\n")?;
+    }
+    text.push_str("blocks 1\n")?;
+    write!(text, "block 0 level 0 at 0 0 0 zero {count}\nend\n")?;
+    Ok(text)
+}
+
+/// The deck of one block between static boxes, that many of them.
+pub fn many_static_boxes(alloc: Global, count: u32) -> Result<String, AllocError> {
+    let mut text = String::from_str(alloc, ONE_BLOCK)?;
+    text.push_str("<parthenon/mesh>\nrefinement = static\nnumlevel = 2\n")?;
+    for at in 0..count {
+        write!(text, "<static/s{at}>\nlevel = 1\n")?;
+    }
+    Ok(text)
+}

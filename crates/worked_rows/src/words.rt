@@ -1,0 +1,76 @@
+use crate::calls::call;
+use crate::decks::ONE_BLOCK;
+use mesh_cli::Status;
+use std::test::Fail as TestFail;
+
+// Words that are refused, and their lines; nothing is written.
+#[test]
+fn refused_words_have_their_lines(rt: HostRuntime) -> Result<(), TestFail> {
+    let alloc = rt.alloc();
+    let none: [&str; 0] = [];
+    let rows: [(&[&str], &str); 19] = [
+        (&none, "usage: no input\n"),
+        (&["-n"], "usage: no input\n"),
+        (&["-i"], "usage: words\n"),
+        (&["-x"], "usage: words\n"),
+        (&["--input", "deck"], "usage: words\n"),
+        (&["-i", "-deck"], "usage: words\n"),
+        (&["-i", "deck", "-i", "deck"], "usage: words\n"),
+        (&["-n", "-i", "deck", "-n"], "usage: words\n"),
+        (&["-g", "7", "-i", "deck"], "usage: two inputs\n"),
+        (&["-i", "deck", "-l"], "usage: -l\n"),
+        (&["-w", "0", "-i", "f"], "usage: -w\n"),
+        (&["-w", "65", "-i", "f"], "usage: -w\n"),
+        (&["-w", "1x", "-i", "f"], "usage: -w\n"),
+        (&["-w", "00000000001", "-i", "f"], "usage: -w\n"),
+        (&["-g", "2147483648"], "usage: -g\n"),
+        (&["-i", "deck", "-d="], "usage: -d\n"),
+        (&["-i", "deck", "-t"], "usage: not built\n"),
+        (&["-g", "7", "-l"], "usage: not built\n"),
+        (&["-w", "0", "-d=", "-i", "f"], "usage: -w\n"),
+    ];
+    for (words, line) in rows {
+        let called = call(alloc, words, ONE_BLOCK.as_bytes())?;
+        assert_eq!(rt; called.status, Status::Usage);
+        assert_eq!(rt; called.status.code(), 1);
+        assert_eq!(rt; called.out.printed(), line.as_bytes());
+        assert_eq!(rt; called.depot.written().len(), 0);
+    }
+    Ok(())
+}
+
+// Other ways to write the same words.
+#[test]
+fn accepted_words_run_the_deck(rt: HostRuntime) -> Result<(), TestFail> {
+    let alloc = rt.alloc();
+    let rows: [&[&str]; 5] = [
+        &["-i=deck", "parthenon/time/nlim=0"],
+        &["-ideck", "parthenon/time/nlim=0"],
+        &[
+            "parthenon/time/nlim=1",
+            "-i",
+            "deck",
+            "parthenon/time/nlim=0",
+        ],
+        &[
+            "-i",
+            "deck",
+            "-w",
+            "64",
+            "-d",
+            "mesh",
+            "--",
+            "parthenon/time/nlim=0",
+        ],
+        &["-w", "0000000001", "-i", "deck", "parthenon/time/nlim=0"],
+    ];
+    for words in rows {
+        let called = call(alloc, words, ONE_BLOCK.as_bytes())?;
+        assert_eq!(rt; called.status, Status::Done);
+        assert_eq!(rt;
+            called.out.printed(),
+            b"done cycles=0 blocks=1 total=8\n".as_slice()
+        );
+    }
+    Ok(())
+}
