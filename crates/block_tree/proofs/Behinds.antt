@@ -1,94 +1,17 @@
 -- What is named behind a side of a leaf is exactly the leaves that touch it.
-use Rattle.std.proofs.Common.{◌≡◌, ◌⊎◌, ◌↔◌, ◌==◌, inl, inr, ℕ, zero, suc, ◌+◌, ◌-◌, ◌*◌, ◌/◌, ◌%◌, ◌<◌, ◌≤◌, Bool, true, false, cond, not, nat_eq, nat_lt, ◌||◌, Option, Some, None, List, [], ◌∷◌, Contains, map, length, refl, arith, ap, subst, sym, ◌∙◌}
-use Rattle.std.specs.List.{filter, range_with_len, slice_index_or}
-use Rattle.std.proofs.lemmas.Bool.{cases_eq, cases_order, eq-eqb, eqb-true, ne_eqb, false≢true}
-use Rattle.std.proofs.lemmas.Bool.Decides.{nat_tests}
+use Rattle.std.proofs.Common.{◌≡◌, inl, inr, ℕ, zero, suc, ◌+◌, ◌-◌, ◌%◌, ◌<◌, ◌≤◌, Bool, true, false, cond, not, nat_eq, Option, Some, None, Contains, map, refl, arith, ap, subst, sym, ◌∙◌}
+use Rattle.std.proofs.lemmas.Bool.{cases_order, false≢true}
 use Rattle.morton_order.specs.declared.space.Loc.{Loc}
 use Rattle.morton_order.specs.declared.space.Shape.{Shape}
 use Rattle.morton_order.specs.Space.{IsIn, IsShape, axis_of, child, child_number, parent, parts}
-use Rattle.morton_order.specs.Neighbours.{AreNeighbours, across}
-use Rattle.morton_order.proofs.Any.{or_cases, or_left, or_right}
+use Rattle.morton_order.specs.Neighbours.{across}
 use Rattle.morton_order.proofs.Family.{child-parent, child_inside, child_number_below, parent-child, parent_inside}
-use Rattle.morton_order.proofs.Touching.{Touches, touching_back}
+use Rattle.morton_order.proofs.Touching.{touching_back}
 use Rattle.morton_order.proofs.Crossing.{across-back, across-half, across-parent, across-sibling, across-touches, crossed_level}
 use Rattle.block_tree.specs.Tree.{IsBalanced, IsLeaf, IsTree, ancestor, is_node}
-use Rattle.block_tree.specs.Behind.{Behind, BehindIsExact, BehindIsMutual, IsAtEdge, Names, TouchesSide, behind, behind_at, children_at, coarse, fine, is_high_half, outside, same}
-
--- the level of an ancestor
-pub ancestor_level : (dims k : ℕ) (c : Loc) → k ≤ c.level → (ancestor dims k c).level + k ≡ c.level
-ancestor_level dims zero c h = omega arith
-ancestor_level dims (suc k) c h = let e = ancestor_level dims k (parent dims c) (omega arith) in omega arith
-
--- one level more at the top
-pub ancestor_more : (dims k : ℕ) (c : Loc) → ancestor dims (suc k) c ≡ parent dims (ancestor dims k c)
-ancestor_more dims zero c = refl
-ancestor_more dims (suc k) c = ancestor_more dims k (parent dims c)
-
-pub ancestor_add : (dims j k : ℕ) (c : Loc) → ancestor dims (j + k) c ≡ ancestor dims k (ancestor dims j c)
-ancestor_add dims zero k c = let e : 0 + k ≡ k = omega arith in ap (λ v. ancestor dims v c) e
-ancestor_add dims (suc j) k c = let e : suc j + k ≡ suc (j + k) = omega arith in ap (λ v. ancestor dims v c) e ∙ ancestor_add dims j k (parent dims c)
-
-pub ancestor_inside : (s : Shape) (k : ℕ) (c : Loc) → IsIn s c → k ≤ c.level → IsIn s (ancestor s.dims k c)
-ancestor_inside s zero c inside h = inside
-ancestor_inside s (suc k) c inside h = ancestor_inside s k (parent s.dims c) (parent_inside s c inside (omega arith)) (omega arith)
-
--- the ancestors of an inner node are inner
-pub ancestor_inner : (s : Shape) (inner : Loc → Bool) → IsTree s inner → (k : ℕ) (c : Loc) → inner c ≡ true → k ≤ c.level → inner (ancestor s.dims k c) ≡ true
-ancestor_inner s inner tree zero c h few = h
-ancestor_inner s inner tree (suc k) c h few = ancestor_inner s inner tree k (parent s.dims c) (tree.closed c h (omega arith)) (omega arith)
-
--- the parent of a node that is no root is inner
-pub node_parent : (s : Shape) (inner : Loc → Bool) (l : Loc) → 1 ≤ l.level → is_node s inner l ≡ true → inner (parent s.dims l) ≡ true
-node_parent s inner l h node = subst (λ (b : Bool). (b || inner (parent s.dims l)) ≡ true) (ne_eqb l.level 0 (λ e. omega arith)) node
-
-pub parent_node : (s : Shape) (inner : Loc → Bool) (l : Loc) → inner (parent s.dims l) ≡ true → is_node s inner l ≡ true
-parent_node s inner l h = or_right (nat_eq l.level 0) (inner (parent s.dims l)) h
-
-pub root_node : (s : Shape) (inner : Loc → Bool) (l : Loc) → l.level ≡ 0 → is_node s inner l ≡ true
-root_node s inner l h = or_left (nat_eq l.level 0) (inner (parent s.dims l)) (eq-eqb l.level 0 h)
-
--- a location that is no node has a parent that is not inner, and is no root
-not_node : (s : Shape) (inner : Loc → Bool) (l : Loc) → is_node s inner l ≡ false → (1 ≤ l.level) × (inner (parent s.dims l) ≡ true → ⊥)
-not_node s inner l h = (at_least, λ p. clash (sym (parent_node s inner l p) ∙ h))
-  where
-    clash : true ≡ false → ⊥
-    clash e = cc
-
-    at_least : 1 ≤ l.level
-    at_least = elim (cases_eq l.level 0) [ inl e ↦ absurd (clash (sym (root_node s inner l e) ∙ h)) | inr d ↦ omega arith ]
-
--- which half a child is, by its coordinate
-pub half-is : (dims : ℕ) (c : Loc) (axis : ℕ) → 1 ≤ dims → dims ≤ 3 → axis < dims → is_high_half (child_number dims c) axis ≡ nat_eq (axis_of c axis % 2) 1
-half-is zero c axis h k used = absurd (omega arith)
-half-is (suc zero) c zero h k used = ap (λ v. nat_eq v 1) (omega arith)
-half-is (suc zero) c (suc a) h k used = absurd (omega arith)
-half-is (suc (suc zero)) c zero h k used = ap (λ v. nat_eq v 1) (omega arith)
-half-is (suc (suc zero)) c (suc zero) h k used = ap (λ v. nat_eq v 1) (omega arith)
-half-is (suc (suc zero)) c (suc (suc a)) h k used = absurd (omega arith)
-half-is (suc (suc (suc zero))) c zero h k used = ap (λ v. nat_eq v 1) (omega arith)
-half-is (suc (suc (suc zero))) c (suc zero) h k used = ap (λ v. nat_eq v 1) (omega arith)
-half-is (suc (suc (suc zero))) c (suc (suc zero)) h k used = ap (λ v. nat_eq v 1) (omega arith)
-half-is (suc (suc (suc zero))) c (suc (suc (suc a))) h k used = absurd (omega arith)
-half-is (suc (suc (suc (suc d)))) c axis h k used = absurd (omega arith)
-
--- the halves of a pair
-pub parity : (x : ℕ) (high : Bool) → nat_eq (x % 2) 1 ≡ high → x % 2 ≡ cond high 1 0
-parity x true h = eqb-true (x % 2) 1 h
-parity x false h = let low : x % 2 < 2 = omega arith in grind (arith, nat_tests)
-
-pub parity_other : (x : ℕ) (high : Bool) → nat_eq (x % 2) 1 ≡ not high → x % 2 ≡ cond high 0 1
-parity_other x true h = let low : x % 2 < 2 = omega arith in grind (arith, nat_tests)
-parity_other x false h = eqb-true (x % 2) 1 h
-
-is_parity : (x : ℕ) (high : Bool) → x % 2 ≡ cond high 0 1 → nat_eq (x % 2) 1 ≡ not high
-is_parity x true h = ap (λ v. nat_eq v 1) h
-is_parity x false h = ap (λ v. nat_eq v 1) h
-
-pub either_half : (b high : Bool) → (b ≡ high) ⊎ (b ≡ not high)
-either_half true true = inl refl
-either_half true false = inr refl
-either_half false true = inr refl
-either_half false false = inl refl
+use Rattle.block_tree.specs.Behind.{BehindIsExact, BehindIsMutual, IsAtEdge, Names, TouchesSide, behind, behind_at, children_at, coarse, fine, is_high_half, same}
+use Rattle.block_tree.proofs.Ancestors.{ancestor_add, ancestor_inner, ancestor_inside, ancestor_level, ancestor_more, either_half, half-is, is_parity, node_parent, not_node, parent_node, parity, parity_other}
+use Rattle.block_tree.proofs.Chosen.{found, has}
 
 -- an edge, by the half that each location on the way is
 record AtEdge (dims axis : ℕ) (high : Bool) (up : ℕ) (c l : Loc) : Type 0 where
@@ -148,51 +71,6 @@ fails false h = refl
 leaf_above : (s : Shape) (inner : Loc → Bool) → IsTree s inner → (k : ℕ) (c l : Loc) → IsLeaf s inner l → k ≤ c.level → ancestor s.dims k c ≡ l → inner c ≡ true → ⊥
 leaf_above s inner tree k c l leaf few top h = leaf.outer (subst (λ (v : Loc). inner v ≡ true) top (ancestor_inner s inner tree k c h few))
 
--- what stands in a list made of the numbers that pass
-later : {X : Type 0} (x m : X) (xs : List X) → Contains xs m → Contains (x ∷ xs) m
-later x m xs (k, small, at) = (suc k, omega arith, at)
-
-record Chosen (p : ℕ → Bool) (f : ℕ → Loc) (a n : ℕ) (m : Loc) : Type 0 where
-  j : ℕ
-  low : a ≤ j
-  high : j < a + n
-  pass : p j ≡ true
-  is : f j ≡ m
-
-chosen_later : (p : ℕ → Bool) (f : ℕ → Loc) (a n : ℕ) (m : Loc) → Chosen p f (a + 1) n m → Chosen p f a (suc n) m
-chosen_later p f a n m c = let low = c.low in let high = c.high in record { j = c.j; low = omega arith; high = omega arith; pass = c.pass; is = c.is }
-
-first_or_later : (x m : Loc) (xs : List Loc) → Contains (x ∷ xs) m → (x ≡ m) ⊎ Contains xs m
-first_or_later x m xs (zero, small, at) = inl at
-first_or_later x m xs (suc k, small, at) = inr (k, omega arith, at)
-
--- one more number in front
-step_found : (p : ℕ → Bool) (f : ℕ → Loc) (a n : ℕ) (m : Loc) (b : Bool) → p a ≡ b → (Contains (map f (filter p (range_with_len (a + 1) n))) m → Chosen p f (a + 1) n m) → Contains (map f (cond b (a ∷ filter p (range_with_len (a + 1) n)) (filter p (range_with_len (a + 1) n)))) m → Chosen p f a (suc n) m
-step_found p f a n m true e rest h = elim (first_or_later (f a) m (map f (filter p (range_with_len (a + 1) n))) h) [
-  | inl is ↦ record { j = a; low = omega arith; high = omega arith; pass = e; is = is }
-  | inr among ↦ chosen_later p f a n m (rest among)
-]
-step_found p f a n m false e rest h = chosen_later p f a n m (rest h)
-
-found : (p : ℕ → Bool) (f : ℕ → Loc) (a n : ℕ) (m : Loc) → Contains (map f (filter p (range_with_len a n))) m → Chosen p f a n m
-found p f a zero m (k, small, at) = absurd (omega arith)
-found p f a (suc n) m h = step_found p f a n m (p a) refl (found p f (a + 1) n m) h
-
-step_has : (p : ℕ → Bool) (f : ℕ → Loc) (a n j : ℕ) (b : Bool) → p a ≡ b → a ≤ j → j < a + suc n → p j ≡ true → (a + 1 ≤ j → Contains (map f (filter p (range_with_len (a + 1) n))) (f j)) → Contains (map f (cond b (a ∷ filter p (range_with_len (a + 1) n)) (filter p (range_with_len (a + 1) n)))) (f j)
-step_has p f a n j true e low high pass rest = elim (cases_eq a j) [
-  | inl is ↦ (0, omega arith, ap f is)
-  | inr other ↦ later (f a) (f j) (map f (filter p (range_with_len (a + 1) n))) (rest (omega arith))
-]
-step_has p f a n j false e low high pass rest = elim (cases_eq a j) [
-  | inl is ↦ absurd (false≢true (sym e ∙ ap p is ∙ pass))
-  | inr other ↦ rest (omega arith)
-]
-
-has : (p : ℕ → Bool) (f : ℕ → Loc) (a n j : ℕ) → a ≤ j → j < a + n → p j ≡ true → Contains (map f (filter p (range_with_len a n))) (f j)
-has p f a zero j low high pass = absurd (omega arith)
-has p f a (suc n) j low high pass = step_has p f a n j (p a) refl low high pass (λ l. has p f (a + 1) n j l (omega arith) pass)
-
--- the number of a child, and its half
 pub number_of_child : (dims : ℕ) (o : Loc) (j : ℕ) → dims ≤ 3 → 1 ≤ dims → j < parts dims → child_number dims (child dims o j) ≡ j
 number_of_child zero o j most least h = absurd (omega arith)
 number_of_child (suc zero) o j most least h = omega arith

@@ -1,17 +1,17 @@
 -- A least tree that follows a balanced one changes each leaf by at most one level.
-use Rattle.std.proofs.Common.{◌≡◌, ◌⊎◌, inl, inr, ℕ, zero, suc, ◌+◌, ◌-◌, ◌<◌, ◌≤◌, Bool, true, false, ◌&&◌, ◌||◌, nat_lt, nat_eq, IsTrue, refl, arith, ap, subst, sym, ◌∙◌}
-use Rattle.std.proofs.lemmas.Bool.{and_parts, cases_eq, lt-ltb, ltb-true, not-true, not-false}
+use Rattle.std.proofs.Common.{◌≡◌, inl, inr, ℕ, zero, suc, ◌+◌, ◌<◌, ◌≤◌, Bool, true, ◌&&◌, nat_lt, arith, ap, sym, ◌∙◌}
+use Rattle.std.proofs.lemmas.Bool.{and_parts, cases_eq, lt-ltb, ltb-true}
 use Rattle.morton_order.specs.declared.space.Loc.{Loc}
 use Rattle.morton_order.specs.declared.space.Shape.{Shape}
-use Rattle.morton_order.specs.Space.{IsIn, IsShape, child, child_number, is_inside, parent, parts}
+use Rattle.morton_order.specs.Space.{IsIn, IsShape, child, child_number, is_inside, parent}
 use Rattle.morton_order.specs.Neighbours.{AreNeighbours}
-use Rattle.morton_order.proofs.Any.{or_cases, or_left, or_right}
 use Rattle.morton_order.proofs.Crossing.{parents_touch}
 use Rattle.morton_order.proofs.Family.{child-parent, child_number_below, inside-is, is-inside, parent_inside}
-use Rattle.block_tree.specs.Tree.{IsBalanced, IsLeaf, IsTree, LiesIn, ancestor, is_node}
+use Rattle.block_tree.specs.Tree.{IsBalanced, IsLeaf, IsTree, ancestor, is_node}
 use Rattle.block_tree.specs.Least.{HoldsWanted, MayBeWanted, least}
 use Rattle.block_tree.specs.Change.{ChangesByOneLevel, IsChange}
-use Rattle.block_tree.proofs.Behinds.{ancestor_inner, ancestor_inside, ancestor_level, ancestor_more, fails, node_parent, parent_node, root_node, strict_inner}
+use Rattle.block_tree.proofs.Ancestors.{ancestor_level, ancestor_more, node_parent, parent_node, root_node}
+use Rattle.block_tree.proofs.Behinds.{strict_inner}
 use Rattle.block_tree.proofs.Forced.{least_is_least}
 
 -- the nodes of the old tree that have room for children

@@ -1,5 +1,5 @@
 -- The nodes that wanted nodes force are the least balanced tree.
-use Rattle.std.proofs.Common.{◌≡◌, ◌⊎◌, inl, inr, ℕ, zero, suc, ◌+◌, ◌-◌, ◌*◌, ◌<◌, ◌≤◌, Bool, true, false, ◌&&◌, ◌||◌, nat_le, nat_eq, List, ◌∷◌, IsTrue, refl, arith, ap, subst, sym, ◌∙◌}
+use Rattle.std.proofs.Common.{◌≡◌, ◌⊎◌, inl, inr, ℕ, zero, suc, ◌+◌, ◌-◌, ◌<◌, ◌≤◌, Bool, true, ◌&&◌, ◌||◌, nat_le, nat_eq, arith, ap, subst, sym, ◌∙◌}
 use Rattle.std.specs.List.{list_any, range_with_len}
 use Rattle.std.proofs.lemmas.Bool.{and_parts, cases_eq, eq-eqb, ne_eqb, leb-true, le-leb}
 use Rattle.morton_order.specs.declared.space.Loc.{Loc}
@@ -8,9 +8,9 @@ use Rattle.morton_order.specs.Space.{IsIn, IsShape, child, child_number, is_insi
 use Rattle.morton_order.specs.Neighbours.{AreNeighbours, neighbours}
 use Rattle.morton_order.proofs.Any.{any_range-found, any_range-has, or_cases, or_left, or_right}
 use Rattle.morton_order.proofs.Family.{child-parent, child_inside, child_number_below, inside-is, is-inside, parent-child, parent_inside}
-use Rattle.morton_order.proofs.Touching.{Touches, neighbours-found, neighbours-has, touching_back, touching_self}
+use Rattle.morton_order.proofs.Touching.{neighbours-found, neighbours-has, touching_back, touching_self}
 use Rattle.block_tree.specs.Tree.{IsBalanced, IsTree, is_node}
-use Rattle.block_tree.specs.Least.{HoldsWanted, IsLeast, LeastIsLeast, MayBeWanted, around, forced, least}
+use Rattle.block_tree.specs.Least.{HoldsWanted, LeastIsLeast, around, forced, least}
 
 -- some forced location of the next level is a child, or touches one
 record Above (k : ℕ) (s : Shape) (wanted : Loc → Bool) (l : Loc) : Type 0 where

@@ -1,5 +1,5 @@
 -- The listed leaves of a tree are all its leaves, in the order of their keys.
-use Rattle.std.proofs.Common.{◌≡◌, ◌⊎◌, inl, inr, ℕ, zero, suc, ◌+◌, ◌-◌, ◌*◌, ◌/◌, ◌%◌, ◌^◌, ◌<◌, ◌≤◌, Bool, true, false, cond, ◌&&◌, ◌||◌, nat_lt, List, [], ◌∷◌, ◌++◌, length, map, slice_index, refl, arith, ap, subst, sym, ◌∙◌, append_assoc, lit<, lit≤}
+use Rattle.std.proofs.Common.{◌≡◌, inl, inr, ℕ, zero, suc, ◌+◌, ◌-◌, ◌*◌, ◌/◌, ◌%◌, ◌^◌, ◌<◌, ◌≤◌, Bool, true, false, cond, ◌&&◌, nat_lt, List, [], ◌∷◌, ◌++◌, map, slice_index, refl, arith, ap, subst, sym, ◌∙◌, append_assoc, lit<}
 use Rattle.std.specs.List.{flat_map, list_any, range_with_len}
 use Rattle.std.specs.List.Sorted.{IsStrictlyIncreasing}
 use Rattle.std.proofs.Math.Nat.{div-div-eq-div-mul, div-mul-le_self, one-le-pow, pow-suc, pow-zero}
@@ -7,7 +7,7 @@ use Rattle.std.proofs.lemmas.Nat.{mul-le}
 use Rattle.std.proofs.lemmas.Bool.{cases_eq, false≢true, lt-ltb}
 use Rattle.morton_order.specs.declared.space.Loc.{Loc}
 use Rattle.morton_order.specs.declared.space.Shape.{Shape}
-use Rattle.morton_order.specs.Key.{interleaved, key, on_finest}
+use Rattle.morton_order.specs.Key.{interleaved, key}
 use Rattle.morton_order.specs.Space.{IsIn, IsShape, blocks_along, child, child_number, factor, parent, parts, root_along, same_loc}
 use Rattle.morton_order.proofs.Any.{or_cases, or_left, or_right}
 use Rattle.morton_order.proofs.Family.{child-parent, child_inside, child_number_below}
@@ -15,7 +15,8 @@ use Rattle.morton_order.proofs.Lattice.{root_count, zero_below}
 use Rattle.morton_order.proofs.Touching.{same_as, same_loc-is, same_loc-self}
 use Rattle.block_tree.specs.Tree.{IsLeaf, IsTree, ancestor, is_listed}
 use Rattle.block_tree.specs.Leaves.{LeavesLaw, begins_inside, leaves_below, leaves_of, pieces, roots, roots_in}
-use Rattle.block_tree.proofs.Behinds.{ancestor_inside, ancestor_level, ancestor_more, fails, strict_inner}
+use Rattle.block_tree.proofs.Ancestors.{ancestor_inside, ancestor_level, ancestor_more}
+use Rattle.block_tree.proofs.Behinds.{fails, strict_inner}
 use Rattle.block_tree.proofs.LeafList.{listed_leaf, root_inside}
 
 -- the keys of locations rise from one number on and stay below another

@@ -1,17 +1,17 @@
 -- The listed leaves of a tree are leaves.
-use Rattle.std.proofs.Common.{◌≡◌, ◌⊎◌, inl, inr, ℕ, zero, suc, ◌+◌, ◌-◌, ◌*◌, ◌/◌, ◌%◌, ◌^◌, ◌<◌, ◌≤◌, Bool, true, false, cond, ◌&&◌, ◌||◌, nat_lt, List, [], ◌∷◌, ◌++◌, refl, arith, ap, subst, sym, ◌∙◌, lit≤}
+use Rattle.std.proofs.Common.{◌≡◌, inl, inr, ℕ, zero, suc, ◌+◌, ◌*◌, ◌/◌, ◌%◌, ◌^◌, ◌<◌, Bool, true, false, cond, ◌&&◌, nat_lt, List, [], ◌∷◌, ◌++◌, refl, arith, ap, subst, sym, ◌∙◌}
 use Rattle.std.specs.List.{flat_map, list_any, range_with_len}
 use Rattle.std.proofs.Math.Nat.{pow-zero}
 use Rattle.std.proofs.lemmas.Bool.{and_parts, false≢true, ltb-true}
 use Rattle.morton_order.specs.declared.space.Loc.{Loc}
 use Rattle.morton_order.specs.declared.space.Shape.{Shape}
-use Rattle.morton_order.specs.Space.{IsIn, blocks_along, child, factor, parent, parts, root_along, same_loc}
+use Rattle.morton_order.specs.Space.{IsIn, child, factor, parts, root_along, same_loc}
 use Rattle.morton_order.proofs.Any.{or_cases}
 use Rattle.morton_order.proofs.Family.{child_inside, parent-child}
 use Rattle.morton_order.proofs.Touching.{same_loc-is}
 use Rattle.block_tree.specs.Tree.{IsLeaf, IsTree, is_listed, is_node}
 use Rattle.block_tree.specs.Leaves.{begins_inside, leaves_below, leaves_of, pieces, roots, roots_in}
-use Rattle.block_tree.proofs.Behinds.{parent_node, root_node}
+use Rattle.block_tree.proofs.Ancestors.{parent_node, root_node}
 
 -- what holds of each item of a list
 abbrev Each : {X : Type 0} → (X → Type 0) → List X → Type 0

@@ -1,4 +1,6 @@
 pub mod Forced
+pub mod Ancestors
+mod Chosen
 pub mod Behinds
 pub mod Changes
 pub mod LeafList

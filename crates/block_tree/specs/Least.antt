@@ -1,5 +1,5 @@
 -- The least balanced tree that holds what is wanted: as a relation, and level by level.
-use Rattle.std.specs.Prelude.{◌≡◌, ℕ, zero, suc, ◌+◌, ◌-◌, ◌*◌, ◌^◌, ◌<◌, ◌≤◌, Bool, ◌&&◌, ◌||◌, nat_lt, nat_le, List, ◌∷◌, IsTrue, slice_index}
+use Rattle.std.specs.Prelude.{ℕ, zero, suc, ◌+◌, ◌-◌, ◌*◌, ◌^◌, ◌<◌, ◌≤◌, Bool, ◌&&◌, ◌||◌, nat_lt, nat_le, List, ◌∷◌, IsTrue, slice_index}
 use Rattle.std.specs.List.{list_any, list_all, range_with_len}
 use Rattle.morton_order.specs.declared.space.Loc.{Loc}
 use Rattle.morton_order.specs.declared.space.Shape.{Shape}

@@ -10,7 +10,8 @@ use Rattle.morton_order.proofs.Crossing.{across-half, across-parent, across-sibl
 use Rattle.morton_order.proofs.Family.{parent-child, parent_inside}
 use Rattle.block_tree.specs.Tree.{is_node}
 use Rattle.block_tree.specs.Behind.{children_at, is_high_half}
-use Rattle.block_tree.proofs.Behinds.{half-is, fails, half_passes, number_of_child, parent_node, parity, parity_other, root_node}
+use Rattle.block_tree.proofs.Ancestors.{half-is, parent_node, parity, parity_other, root_node}
+use Rattle.block_tree.proofs.Behinds.{fails, half_passes, number_of_child}
 use Rattle.dense_model.specs.Sums.{sum_over, sum_to}
 use Rattle.dense_model.specs.Rules.{Rules, rate_of}
 use Rattle.dense_model.specs.Mesh.{Mesh, block_of, cell_lattice, is_inner}
@@ -24,30 +25,7 @@ use Rattle.dense_model.proofs.Grids.{at_option, sum_first, sum_over-range, sum_p
 use Rattle.dense_model.proofs.Lattices.{crossings, finer_lattice, lattice, lattice_nothing, lattice_plus, lattice_same}
 use Rattle.dense_model.proofs.LeafSums.{cells_by_level, counts, is_leaf}
 use Rattle.dense_model.proofs.Looks.{block_parent, sum_to-same}
-
--- what there is, where a test holds
-cond_at : {X : Type 0} (b : Bool) (o : Option X) (g : X → ℕ) → cond b (at_option o g) 0 ≡ at_option o (λ x. cond b (g x) 0)
-cond_at true None g = refl
-cond_at false None g = refl
-cond_at b (Some x) g = refl
-
-at_same : {X : Type 0} (o : Option X) (g h : X → ℕ) → ((x : X) → o ≡ Some x → g x ≡ h x) → at_option o g ≡ at_option o h
-at_same None g h e = refl
-at_same (Some x) g h e = e x refl
-
-at_plus : {X : Type 0} (o : Option X) (g h : X → ℕ) → at_option o (λ x. g x + h x) ≡ at_option o g + at_option o h
-at_plus None g h = refl
-at_plus (Some x) g h = refl
-
-cond_plus : (b : Bool) (x y : ℕ) → cond b (x + y) 0 ≡ cond b x 0 + cond b y 0
-cond_plus true x y = refl
-cond_plus false x y = refl
-
-cond_swap : (a b : Bool) (x : ℕ) → cond a (cond b x 0) 0 ≡ cond b (cond a x 0) 0
-cond_swap true true x = refl
-cond_swap true false x = refl
-cond_swap false true x = refl
-cond_swap false false x = refl
+use Rattle.dense_model.proofs.Conditions.{at_plus, at_same, cond_at, cond_plus, cond_swap, crossing_tests, filter_sum, passing_sum, step_filter, under, under_option, zero_at, zero_under}
 
 -- what passes the faces of the finer cells at a side
 abbrev finer_flux : Rules → Mesh → ℕ → ℕ → Bool → Bool → Loc → ℕ
@@ -143,28 +121,6 @@ crossed_from : (s : Shape) (level axis : ℕ) (high : Bool) (g : Loc → Loc →
 crossed_from s level axis true g used few = crossings s level axis g used few
 crossed_from s level axis false g used few = sym (crossings s level axis (λ o c. g c o) used few)
 
--- a sum over the numbers that pass
-step_filter : (p : ℕ → Bool) (xs : List ℕ) (g : ℕ → ℕ) (a r : ℕ) (b : Bool) → sum_over xs g ≡ r → sum_over (cond b (a ∷ xs) xs) g ≡ cond b (g a) 0 + r
-step_filter p xs g a r true e = omega arith
-step_filter p xs g a r false e = omega arith
-
-filter_sum : (p : ℕ → Bool) (g : ℕ → ℕ) (a n : ℕ) → sum_over (filter p (range_with_len a n)) g ≡ sum_over (range_with_len a n) (λ j. cond (p j) (g j) 0)
-filter_sum p g a zero = refl
-filter_sum p g a (suc n) = step_filter p (filter p (range_with_len (a + 1) n)) g a (sum_over (range_with_len (a + 1) n) (λ j. cond (p j) (g j) 0)) (p a) (filter_sum p g (a + 1) n)
-
-passing_sum : (p : ℕ → Bool) (g : ℕ → ℕ) (n : ℕ) → sum_over (filter p (range_with_len 0 n)) g ≡ sum_to n (λ j. cond (p j) (g j) 0)
-passing_sum p g n = filter_sum p g 0 n ∙ sum_over-range 0 n (λ j. cond (p j) (g j) 0)
-    ∙ sum_to-same n (λ j. cond (p (0 + j)) (g (0 + j)) 0) (λ j. cond (p j) (g j) 0) (λ j l. let e : 0 + j ≡ j = omega arith in ap (λ t. cond (p t) (g t) 0) e)
-
--- a sum under tests that do not depend on its number
-under : (n : ℕ) (b : Bool) (g : ℕ → ℕ) → cond b (sum_to n g) 0 ≡ sum_to n (λ j. cond b (g j) 0)
-under n true g = refl
-under n false g = sym (sum_zero n (λ _. 0) (λ i l. refl))
-
-under_option : (n : ℕ) (o : Option Loc) (g : Loc → ℕ → ℕ) → at_option o (λ c. sum_to n (g c)) ≡ sum_to n (λ j. at_option o (λ c. g c j))
-under_option n None g = sym (sum_zero n (λ _. 0) (λ i l. refl))
-under_option n (Some c) g = refl
-
 -- whether a cell is the half of its parent at a side
 abbrev is_at : Mesh → ℕ → Bool → ℕ → Bool
 is_at m axis side j = cond side (is_high_half j axis) (not (is_high_half j axis))
@@ -198,20 +154,6 @@ children_count rules m mesh f axis right high o =
         ap (λ (v : Loc). at_option (cell_across m v axis (not high)) (λ c. cond (is_leaf m.shape (is_inner m) (block_of m c)) (cond (is_inner m (block_of m v)) (cond (is_at m axis (not high) (child_number m.shape.dims (child m.shape.dims o j))) (finer_flux rules m f axis (not high) right (child m.shape.dims o j)) 0) 0) 0)) (parent-child m.shape.dims o j)
         ∙ ap (λ v. at_option (cell_across m o axis (not high)) (λ c. cond (is_leaf m.shape (is_inner m) (block_of m c)) (cond (is_inner m (block_of m o)) (cond (is_at m axis (not high) v) (finer_flux rules m f axis (not high) right (child m.shape.dims o j)) 0) 0) 0)) (number_of_child m.shape.dims o j mesh.shape.most mesh.shape.least l)
 
--- nothing counts where the half is the other one
-zero_at : (o : Option Loc) (a : Loc → Bool) (b : Bool) (x : ℕ) → at_option o (λ c. cond (a c) (cond b (cond false x 0) 0) 0) ≡ 0
-zero_at None a b x = refl
-zero_at (Some c) a b x = by (a c) b
-  where
-    by : (p q : Bool) → ◌≡◌ {A = ℕ} (cond p (cond q 0 0) 0) 0
-    by true true = refl
-    by true false = refl
-    by false q = refl
-
-zero_under : (b : Bool) (x : ℕ) → x ≡ 0 → cond b x 0 ≡ 0
-zero_under true x e = e
-zero_under false x e = refl
-
 half_false : (h side : Bool) → cond side h (not h) ≡ false → h ≡ not side
 half_false true true e = e
 half_false false true e = refl
@@ -221,19 +163,6 @@ half_false false false e = sym e
 -- a location that is no root is a node where its parent is inner
 node_is : (m : Mesh) (l : Loc) → 1 ≤ l.level → is_node m.shape (is_inner m) l ≡ is_inner m (parent m.shape.dims l)
 node_is m l h = ap (λ (b : Bool). b || is_inner m (parent m.shape.dims l)) (ne_eqb l.level 0 (λ e. omega arith))
-
--- the tests of a crossing from a finer leaf to a coarser one, from either side
-crossing_tests : (a b c q : Bool) (x : ℕ) → (q ≡ true → b ≡ true) → (c ≡ true → a ≡ true) → cond (a && not b) (cond c x 0) 0 ≡ cond (c && not q) (cond b 0 x) 0
-crossing_tests true true true true x g h = refl
-crossing_tests true true true false x g h = refl
-crossing_tests true true false q x g h = refl
-crossing_tests false true true q x g h = absurd (false≢true (h refl))
-crossing_tests false true false q x g h = refl
-crossing_tests a false c true x g h = absurd (false≢true (g refl))
-crossing_tests true false true false x g h = refl
-crossing_tests true false false false x g h = refl
-crossing_tests false false true false x g h = absurd (false≢true (h refl))
-crossing_tests false false false false x g h = refl
 
 -- a cell that crosses a side
 record Crosses (m : Mesh) (axis : ℕ) (side : Bool) (d : Loc) : Type 0 where

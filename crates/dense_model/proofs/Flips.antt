@@ -7,7 +7,8 @@ use Rattle.morton_order.specs.Neighbours.{across, moved}
 use Rattle.morton_order.proofs.Family.{child-parent, child_inside, parent-child}
 use Rattle.morton_order.proofs.Crossing.{across-back, across-half, across-moved, across-parent, across-touches, crossed_level}
 use Rattle.block_tree.specs.Behind.{children_at, is_high_half}
-use Rattle.block_tree.proofs.Behinds.{half-is, number_of_child, parity}
+use Rattle.block_tree.proofs.Ancestors.{half-is, parity}
+use Rattle.block_tree.proofs.Behinds.{number_of_child}
 use Rattle.dense_model.specs.Sums.{sum_over, sum_to}
 
 -- the weight of an axis in the number of a child

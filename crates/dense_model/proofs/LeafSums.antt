@@ -12,7 +12,8 @@ use Rattle.morton_order.proofs.Lattice.{root_count}
 use Rattle.morton_order.proofs.Touching.{same_as}
 use Rattle.block_tree.specs.Tree.{IsTree, is_node}
 use Rattle.block_tree.specs.Leaves.{begins_inside, leaves_below, leaves_of, pieces, roots, roots_in}
-use Rattle.block_tree.proofs.Behinds.{fails, parent_node, root_node}
+use Rattle.block_tree.proofs.Ancestors.{parent_node, root_node}
+use Rattle.block_tree.proofs.Behinds.{fails}
 use Rattle.dense_model.specs.Sums.{sum_over, sum_to}
 use Rattle.dense_model.specs.Mesh.{Mesh, block_of, block_size, cell_at, cell_lattice, cells_along, is_inner}
 use Rattle.dense_model.specs.Stage.{sum_cells}

@@ -6,6 +6,7 @@ pub mod Grids
 pub mod Lattices
 pub mod LeafSums
 pub mod Adjacent
+mod Conditions
 pub mod Balances
 pub mod Conserves
 pub mod NextTree

@@ -7,7 +7,8 @@ use Rattle.morton_order.specs.Space.{child, child_number, factor, parent, parts}
 use Rattle.morton_order.proofs.Family.{parent-child}
 use Rattle.morton_order.proofs.Touching.{same_as}
 use Rattle.block_tree.specs.Tree.{IsLeaf, is_node}
-use Rattle.block_tree.proofs.Behinds.{fails, node_parent, true_false}
+use Rattle.block_tree.proofs.Ancestors.{node_parent}
+use Rattle.block_tree.proofs.Behinds.{fails, true_false}
 use Rattle.mesh_num.specs.Share.{share}
 use Rattle.dense_model.specs.Sums.{sum_to}
 use Rattle.dense_model.specs.Mesh.{Mesh, block_of, cells_along, is_inner, stored}

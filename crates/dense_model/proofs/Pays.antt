@@ -8,7 +8,8 @@ use Rattle.morton_order.specs.Space.{IsIn, child, child_number, parent, parts}
 use Rattle.morton_order.specs.Neighbours.{across}
 use Rattle.block_tree.specs.Tree.{IsLeaf, is_node}
 use Rattle.block_tree.specs.Behind.{children_at, is_high_half}
-use Rattle.block_tree.proofs.Behinds.{half_passes, node_parent}
+use Rattle.block_tree.proofs.Ancestors.{node_parent}
+use Rattle.block_tree.proofs.Behinds.{half_passes}
 use Rattle.mesh_num.specs.Portion.{portion}
 use Rattle.mesh_num.specs.Rate.{rate}
 use Rattle.mesh_num.specs.Share.{share}
