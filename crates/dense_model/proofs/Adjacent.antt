@@ -1,14 +1,13 @@
 -- Cells that touch lie in blocks that are one or touch.
-use Rattle.std.proofs.Common.{◌≡◌, ◌⊎◌, ◌==◌, inl, inr, ℕ, zero, suc, ◌+◌, ◌-◌, ◌*◌, ◌/◌, ◌%◌, ◌^◌, ◌<◌, ◌≤◌, Bool, true, false, cond, ◌&&◌, ◌||◌, nat_eq, refl, arith, ap, subst, sym, ◌∙◌, lit<}
+use Rattle.std.proofs.Common.{◌≡◌, ◌⊎◌, ◌==◌, inl, inr, ℕ, zero, suc, ◌+◌, ◌*◌, ◌/◌, ◌%◌, ◌^◌, ◌<◌, ◌≤◌, Bool, true, ◌&&◌, ◌||◌, arith, ap, subst, sym, ◌∙◌, lit<}
 use Rattle.std.proofs.Math.Nat.{div-eq_of_lt-le, div-add-mod'}
 use Rattle.std.proofs.lemmas.Bool.{and_parts, cases_lt, eqb-true}
 use Rattle.std.proofs.lemmas.Bool.Decides.{nat_tests}
 use Rattle.std.proofs.lemmas.Nat.{div_below, mod_below}
 use Rattle.morton_order.specs.declared.space.Loc.{Loc}
-use Rattle.morton_order.specs.declared.space.Shape.{Shape}
-use Rattle.morton_order.specs.Space.{IsIn, blocks_along, factor, root_along, wraps}
+use Rattle.morton_order.specs.Space.{IsIn, factor, root_along, wraps}
 use Rattle.morton_order.specs.Neighbours.{AreNeighbours, is_near}
-use Rattle.morton_order.proofs.Any.{or_cases, or_left, or_right}
+use Rattle.morton_order.proofs.Any.{or_cases}
 use Rattle.dense_model.specs.Mesh.{Mesh, block_of, cell_lattice, cells_along}
 use Rattle.dense_model.specs.LookLaws.{IsMesh}
 

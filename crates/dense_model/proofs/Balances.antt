@@ -1,7 +1,6 @@
 -- What passes the low sides of all cells from within the mesh is what passes their high sides.
-use Rattle.std.proofs.Common.{◌≡◌, ◌⊎◌, inl, inr, ℕ, zero, suc, ◌+◌, ◌-◌, ◌*◌, ◌/◌, ◌%◌, ◌<◌, ◌≤◌, Bool, true, false, cond, not, ◌&&◌, ◌||◌, nat_eq, Option, Some, None, List, [], ◌∷◌, refl, arith, ap, subst, sym, ◌∙◌, add-one}
-use Rattle.std.specs.List.{filter, range_with_len}
-use Rattle.std.proofs.lemmas.Bool.{and_parts, cases_eq, false≢true, ne_eqb}
+use Rattle.std.proofs.Common.{◌≡◌, inl, inr, ℕ, suc, ◌+◌, ◌<◌, ◌≤◌, Bool, true, false, cond, not, ◌&&◌, ◌||◌, Option, Some, None, refl, arith, ap, sym, ◌∙◌, add-one}
+use Rattle.std.proofs.lemmas.Bool.{cases_eq, false≢true, ne_eqb}
 use Rattle.morton_order.specs.declared.space.Loc.{Loc}
 use Rattle.morton_order.specs.declared.space.Shape.{Shape}
 use Rattle.morton_order.specs.Space.{IsIn, axis_of, child, child_number, parent, parts}
@@ -21,11 +20,11 @@ use Rattle.dense_model.specs.Look.{look}
 use Rattle.dense_model.specs.Faces.{cell_across, field_at, flux_where, own_flux}
 use Rattle.dense_model.specs.Stage.{sum_cells}
 use Rattle.dense_model.proofs.Adjacent.{block_inside, blocks_touch}
-use Rattle.dense_model.proofs.Grids.{at_option, sum_first, sum_over-range, sum_plus, sum_zero}
+use Rattle.dense_model.proofs.Grids.{at_option, sum_first, sum_plus}
 use Rattle.dense_model.proofs.Lattices.{crossings, finer_lattice, lattice, lattice_nothing, lattice_plus, lattice_same}
 use Rattle.dense_model.proofs.LeafSums.{cells_by_level, counts, is_leaf}
 use Rattle.dense_model.proofs.Looks.{block_parent, sum_to-same}
-use Rattle.dense_model.proofs.Conditions.{at_plus, at_same, cond_at, cond_plus, cond_swap, crossing_tests, filter_sum, passing_sum, step_filter, under, under_option, zero_at, zero_under}
+use Rattle.dense_model.proofs.Conditions.{at_plus, at_same, cond_at, cond_plus, cond_swap, crossing_tests, passing_sum, under, under_option, zero_at, zero_under}
 
 -- what passes the faces of the finer cells at a side
 abbrev finer_flux : Rules → Mesh → ℕ → ℕ → Bool → Bool → Loc → ℕ

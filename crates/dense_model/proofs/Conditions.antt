@@ -1,30 +1,11 @@
 -- Sums and options under tests.
-use Rattle.std.proofs.Common.{◌≡◌, ◌⊎◌, inl, inr, ℕ, zero, suc, ◌+◌, ◌-◌, ◌*◌, ◌/◌, ◌%◌, ◌<◌, ◌≤◌, Bool, true, false, cond, not, ◌&&◌, ◌||◌, nat_eq, Option, Some, None, List, [], ◌∷◌, refl, arith, ap, subst, sym, ◌∙◌, add-one}
+use Rattle.std.proofs.Common.{◌≡◌, ℕ, zero, suc, ◌+◌, Bool, true, false, cond, not, ◌&&◌, Option, Some, None, List, ◌∷◌, refl, arith, ap, sym, ◌∙◌}
 use Rattle.std.specs.List.{filter, range_with_len}
-use Rattle.std.proofs.lemmas.Bool.{and_parts, cases_eq, false≢true, ne_eqb}
+use Rattle.std.proofs.lemmas.Bool.{false≢true}
 use Rattle.morton_order.specs.declared.space.Loc.{Loc}
-use Rattle.morton_order.specs.declared.space.Shape.{Shape}
-use Rattle.morton_order.specs.Space.{IsIn, axis_of, child, child_number, parent, parts}
-use Rattle.morton_order.specs.Neighbours.{across}
-use Rattle.morton_order.proofs.Crossing.{across-half, across-parent, across-sibling, across-touches, crossed_level}
-use Rattle.morton_order.proofs.Family.{parent-child, parent_inside}
-use Rattle.block_tree.specs.Tree.{is_node}
-use Rattle.block_tree.specs.Behind.{children_at, is_high_half}
-use Rattle.block_tree.proofs.Ancestors.{half-is, parent_node, parity, parity_other, root_node}
-use Rattle.block_tree.proofs.Behinds.{fails, half_passes, number_of_child}
 use Rattle.dense_model.specs.Sums.{sum_over, sum_to}
-use Rattle.dense_model.specs.Rules.{Rules, rate_of}
-use Rattle.dense_model.specs.Mesh.{Mesh, block_of, cell_lattice, is_inner}
-use Rattle.dense_model.specs.LookLaws.{IsMesh}
-use Rattle.mesh_num.specs.Portion.{portion}
-use Rattle.dense_model.specs.Look.{look}
-use Rattle.dense_model.specs.Faces.{cell_across, field_at, flux_where, own_flux}
-use Rattle.dense_model.specs.Stage.{sum_cells}
-use Rattle.dense_model.proofs.Adjacent.{block_inside, blocks_touch}
-use Rattle.dense_model.proofs.Grids.{at_option, sum_first, sum_over-range, sum_plus, sum_zero}
-use Rattle.dense_model.proofs.Lattices.{crossings, finer_lattice, lattice, lattice_nothing, lattice_plus, lattice_same}
-use Rattle.dense_model.proofs.LeafSums.{cells_by_level, counts, is_leaf}
-use Rattle.dense_model.proofs.Looks.{block_parent, sum_to-same}
+use Rattle.dense_model.proofs.Grids.{at_option, sum_over-range, sum_zero}
+use Rattle.dense_model.proofs.Looks.{sum_to-same}
 
 -- what there is, where a test holds
 pub cond_at : {X : Type 0} (b : Bool) (o : Option X) (g : X → ℕ) → cond b (at_option o g) 0 ≡ at_option o (λ x. cond b (g x) 0)

@@ -1,22 +1,21 @@
 -- A stage conserves each field's total, but for what passes the faces of the domain.
-use Rattle.std.proofs.Common.{◌≡◌, ◌⊎◌, inl, inr, ℕ, zero, suc, ◌+◌, ◌-◌, ◌*◌, ◌/◌, ◌%◌, ◌<◌, ◌≤◌, Bool, true, false, cond, not, ◌&&◌, Option, Some, None, List, [], ◌∷◌, length, map, refl, arith, ap, subst, sym, ◌∙◌, lit<}
-use Rattle.std.specs.List.{position_or_len, prefix_len, range_with_len, slice_index_or}
+use Rattle.std.proofs.Common.{◌≡◌, ℕ, zero, suc, ◌+◌, ◌-◌, ◌*◌, ◌/◌, ◌%◌, ◌<◌, ◌≤◌, Bool, true, false, cond, not, Option, Some, None, List, [], ◌∷◌, length, refl, arith, ap, sym, ◌∙◌, lit<}
+use Rattle.std.specs.List.{position_or_len, slice_index_or}
 use Rattle.std.proofs.lemmas.Bool.{and_parts, false≢true}
 use Rattle.std.proofs.lemmas.List.{get_or-map}
 use Rattle.std.proofs.lemmas.List.FromFn.{get_or-map-range_with_len}
 use Rattle.std.proofs.Math.Nat.{div-add-mod'}
 use Rattle.std.proofs.lemmas.Nat.{mod-mul-add, mod_below, div_below}
 use Rattle.morton_order.specs.declared.space.Loc.{Loc}
-use Rattle.morton_order.specs.declared.space.Shape.{Shape}
 use Rattle.morton_order.specs.Space.{IsIn, same_loc}
 use Rattle.morton_order.proofs.Touching.{same_loc-is, same_loc-self}
-use Rattle.block_tree.specs.Tree.{IsLeaf, is_node}
+use Rattle.block_tree.specs.Tree.{is_node}
 use Rattle.dense_model.specs.Sums.{sum_over, sum_to, table}
-use Rattle.dense_model.specs.Rules.{FaceKind, Rules}
-use Rattle.dense_model.specs.Mesh.{Mesh, block_of, block_size, cell_at, cell_lattice, cells_along, is_inner, leaf_number, place_of, stored, totals_on}
+use Rattle.dense_model.specs.Rules.{Rules}
+use Rattle.dense_model.specs.Mesh.{Mesh, block_of, block_size, cell_at, cell_lattice, cells_along, is_inner, leaf_number, place_of, stored}
 use Rattle.dense_model.specs.LookLaws.{IsMesh, OnLeaf}
 use Rattle.dense_model.specs.Faces.{cell_across, flux, flux_by}
-use Rattle.dense_model.specs.Stage.{cell_inflow, cell_outflow, filled, gain, inflow_of, loss, outflow_of, stage, staged, sum_cells, when_outside}
+use Rattle.dense_model.specs.Stage.{filled, gain, inflow_of, loss, outflow_of, staged, sum_cells, when_outside}
 use Rattle.dense_model.specs.PayLaws.{HasFittingRates, IsNoFiner}
 use Rattle.dense_model.specs.StageLaws.{StageConserves, total_over}
 use Rattle.dense_model.proofs.Adjacent.{block_inside}

@@ -23,7 +23,7 @@ use Rattle.dense_model.specs.OfProblem.{box_of, is_built, rules_of}
 use Rattle.dense_model.specs.RowRun.{IsRunAt, empty_states, moving_at, opening_rows, row_cell, row_mesh, rows_at, states_of, totals_in}
 use Rattle.dense_model.specs.RunFiles.{total_after, total_in}
 use Rattle.dense_model.specs.Texts.{total_of}
-use Rattle.dense_model.proofs.Loops.{no_row}
+use Rattle.dense_model.specs.Flows.{no_row}
 use Rattle.dense_model.proofs.Built.{one_row, size2_is, tests_of}
 use Rattle.dense_model.proofs.FieldBounds.{fields_are}
 use Rattle.dense_model.proofs.RowMesh.{table_same}
@@ -230,7 +230,7 @@ totals_kept p t =
 pub over_range : (n : ℕ) (each : ℕ → ℕ) → sum_over (range_with_len 0 n) each ≡ sum_to n each
 over_range n each = sym (sum_mapped (λ (t : ℕ). t) each (range_with_len 0 n)) ∙ sum_table n each (λ (t : ℕ). t)
 
-one_leaf : (p : Problem) (rows : List (List ℕ)) (f : ℕ) → total_of (row_mesh p.shape (slice_index p.cells 0) rows) f ≡ row_sum (slice_index_or rows f [])
+pub one_leaf : (p : Problem) (rows : List (List ℕ)) (f : ℕ) → total_of (row_mesh p.shape (slice_index p.cells 0) rows) f ≡ row_sum (slice_index_or rows f [])
 one_leaf p rows f = omega arith
 
 -- what all totals add up to
@@ -307,7 +307,7 @@ empty_more p i rows new row so_far pushed is =
 pub empty_is : (p : Settings) (f cells : ℕ) (row : RowState) (moving : Moving) → row ≡ (let r : RowState = record { moving = moving; cells = replicate cells 0 } in r) → moving ≡ moving_at (rules_of p) p.shape f → cells ≡ slice_index p.cells 0 → row ≡ empty_state p f
 empty_is p f cells row moving is moves same = cc
 
-same_item : {X : Type 0} (xs : List X) (i : ℕ) (d e : X) → i < length xs → get_or xs i d ≡ get_or xs i e
+pub same_item : {X : Type 0} (xs : List X) (i : ℕ) (d e : X) → i < length xs → get_or xs i d ≡ get_or xs i e
 same_item [] i d e h = absurd (omega (arith, h))
 same_item (x ∷ xs) zero d e h = refl
 same_item (x ∷ xs) (suc i) d e h = same_item xs i d e (omega (arith, h))

@@ -1,10 +1,10 @@
 -- The two halves at a face.
-use Rattle.std.proofs.Common.{◌≡◌, ℕ, zero, suc, ◌+◌, ◌-◌, ◌*◌, ◌/◌, ◌%◌, ◌<◌, ◌≤◌, Bool, true, false, cond, not, Option, Some, List, refl, arith, ap, subst, sym, ◌∙◌}
+use Rattle.std.proofs.Common.{◌≡◌, ℕ, zero, suc, ◌+◌, ◌-◌, ◌%◌, ◌<◌, ◌≤◌, Bool, true, false, cond, not, Some, refl, arith, ap, sym, ◌∙◌}
 use Rattle.morton_order.specs.declared.space.Loc.{Loc}
 use Rattle.morton_order.specs.declared.space.Shape.{Shape}
 use Rattle.morton_order.specs.Space.{IsIn, axis_of, child, child_number, parent, parts}
 use Rattle.morton_order.specs.Neighbours.{across, moved}
-use Rattle.morton_order.proofs.Family.{child-parent, child_inside, parent-child}
+use Rattle.morton_order.proofs.Family.{child_inside, parent-child}
 use Rattle.morton_order.proofs.Crossing.{across-back, across-half, across-moved, across-parent, across-touches, crossed_level}
 use Rattle.block_tree.specs.Behind.{children_at, is_high_half}
 use Rattle.block_tree.proofs.Ancestors.{half-is, parity}

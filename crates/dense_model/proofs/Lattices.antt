@@ -1,24 +1,13 @@
 -- Sums over all locations of a level, and over the leaves of a tree.
-use Rattle.std.proofs.Common.{◌≡◌, ◌⊎◌, inl, inr, ℕ, zero, suc, ◌+◌, ◌-◌, ◌*◌, ◌/◌, ◌%◌, ◌^◌, ◌<◌, ◌≤◌, Bool, true, false, cond, not, ◌&&◌, ◌||◌, nat_lt, nat_eq, Option, Some, None, List, [], ◌∷◌, ◌++◌, refl, arith, ap, subst, sym, ◌∙◌, lit≤, lit<}
-use Rattle.std.specs.List.{flat_map, range_with_len}
+use Rattle.std.proofs.Common.{◌≡◌, ℕ, zero, suc, ◌+◌, ◌*◌, ◌/◌, ◌%◌, ◌^◌, ◌<◌, ◌≤◌, Bool, true, false, Option, Some, None, refl, arith, ap, subst, sym, ◌∙◌}
 use Rattle.std.specs.Option.{option_map}
-use Rattle.std.proofs.Math.Nat.{pow-suc, pow-le-pow_right}
-use Rattle.std.proofs.lemmas.Bool.{cases_eq, eq-eqb, le-ltb, lt-ltb, ltb-false, ne_eqb}
-use Rattle.std.proofs.lemmas.Bool.Decides.{nat_tests}
-use Rattle.std.proofs.lemmas.Nat.{div-mul-add, mod-mul-add}
+use Rattle.std.proofs.Math.Nat.{pow-suc}
 use Rattle.morton_order.specs.declared.space.Loc.{Loc}
 use Rattle.morton_order.specs.declared.space.Shape.{Shape}
-use Rattle.morton_order.specs.Space.{IsIn, IsShape, axis_of, blocks_along, child, factor, parent, parts, root_along, wraps}
+use Rattle.morton_order.specs.Space.{IsIn, blocks_along, child, factor, parts, root_along, wraps}
 use Rattle.morton_order.specs.Neighbours.{across, moved, step}
-use Rattle.morton_order.proofs.Family.{child_inside, parent-child}
-use Rattle.morton_order.proofs.Lattice.{root_count}
-use Rattle.block_tree.specs.Tree.{IsLeaf, IsTree, is_node}
-use Rattle.block_tree.specs.Leaves.{begins_inside, leaves_below, leaves_of, pieces, roots, roots_in}
-use Rattle.dense_model.specs.Sums.{sum_over, sum_to}
-use Rattle.dense_model.specs.Mesh.{Mesh, block_of, block_size, cell_at, cell_lattice, cells_along, is_inner}
-use Rattle.dense_model.specs.Stage.{sum_cells}
-use Rattle.dense_model.specs.LookLaws.{IsMesh}
-use Rattle.dense_model.proofs.Grids.{at_option, grid, grid_below, grid_plus, grid_same, grid_split, grid_turned, shift, sum_over-append, sum_over-flat, sum_over-range, sum_plus, sum_product, sum_swap, sum_zero}
+use Rattle.dense_model.specs.Sums.{sum_to}
+use Rattle.dense_model.proofs.Grids.{at_option, grid, grid_plus, grid_same, grid_split, shift, sum_zero}
 use Rattle.dense_model.proofs.Looks.{sum_to-same}
 
 -- a location

@@ -1,13 +1,13 @@
 -- A sum over all cells of a mesh is a sum over all cells of all levels, of those that lie on leaves.
-use Rattle.std.proofs.Common.{◌≡◌, ◌⊎◌, inl, inr, ℕ, zero, suc, ◌+◌, ◌-◌, ◌*◌, ◌/◌, ◌%◌, ◌^◌, ◌<◌, ◌≤◌, Bool, true, false, cond, not, ◌&&◌, ◌||◌, nat_lt, nat_eq, List, [], ◌∷◌, ◌++◌, refl, arith, ap, subst, sym, ◌∙◌, lit≤, lit<, add-one}
+use Rattle.std.proofs.Common.{◌≡◌, ℕ, zero, suc, ◌+◌, ◌*◌, ◌/◌, ◌%◌, ◌^◌, ◌<◌, ◌≤◌, Bool, true, false, cond, not, ◌&&◌, ◌||◌, nat_lt, List, [], ◌∷◌, refl, arith, ap, sym, ◌∙◌, lit<, add-one}
 use Rattle.std.specs.List.{flat_map, range_with_len}
 use Rattle.std.proofs.Math.Nat.{pow-suc, pow-zero}
 use Rattle.std.proofs.lemmas.Bool.{ltb-true, lt-ltb, ne_eqb}
 use Rattle.std.proofs.lemmas.Nat.{div_below, div-mul-add, mod-mul-add, mod_below}
 use Rattle.morton_order.specs.declared.space.Loc.{Loc}
 use Rattle.morton_order.specs.declared.space.Shape.{Shape}
-use Rattle.morton_order.specs.Space.{IsIn, IsShape, blocks_along, child, factor, parent, parts, root_along}
-use Rattle.morton_order.proofs.Family.{child_inside, parent-child}
+use Rattle.morton_order.specs.Space.{IsShape, blocks_along, child, factor, parent, parts, root_along}
+use Rattle.morton_order.proofs.Family.{parent-child}
 use Rattle.morton_order.proofs.Lattice.{root_count}
 use Rattle.morton_order.proofs.Touching.{same_as}
 use Rattle.block_tree.specs.Tree.{IsTree, is_node}

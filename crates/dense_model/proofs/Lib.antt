@@ -27,3 +27,6 @@ mod RowDump
 mod DumpReads
 mod LawFacts
 mod FileSteps
+mod FlowSteps
+mod FlowReads
+mod FlowLaws

@@ -1,19 +1,18 @@
 -- What the look is on a mesh.
-use Rattle.std.proofs.Common.{◌≡◌, ℕ, zero, suc, ◌+◌, ◌-◌, ◌*◌, ◌/◌, ◌%◌, ◌<◌, ◌≤◌, Bool, true, false, cond, nat_eq, refl, arith, ap, subst, sym, ◌∙◌}
+use Rattle.std.proofs.Common.{◌≡◌, ℕ, zero, suc, ◌-◌, ◌/◌, ◌<◌, ◌≤◌, Bool, true, false, cond, refl, arith, ap, sym, ◌∙◌}
 use Rattle.std.proofs.Math.Nat.{div-div-eq-div-mul, mul_comm}
-use Rattle.std.proofs.lemmas.Bool.{cases_eq}
 use Rattle.morton_order.specs.declared.space.Loc.{Loc}
 use Rattle.morton_order.specs.Space.{child, child_number, factor, parent, parts}
 use Rattle.morton_order.proofs.Family.{parent-child}
 use Rattle.morton_order.proofs.Touching.{same_as}
-use Rattle.block_tree.specs.Tree.{IsLeaf, is_node}
+use Rattle.block_tree.specs.Tree.{is_node}
 use Rattle.block_tree.proofs.Ancestors.{node_parent}
-use Rattle.block_tree.proofs.Behinds.{fails, true_false}
+use Rattle.block_tree.proofs.Behinds.{fails}
 use Rattle.mesh_num.specs.Share.{share}
 use Rattle.dense_model.specs.Sums.{sum_to}
 use Rattle.dense_model.specs.Mesh.{Mesh, block_of, cells_along, is_inner, stored}
 use Rattle.dense_model.specs.Look.{gathered, look, spread, sum_where}
-use Rattle.dense_model.specs.LookLaws.{IsMesh, LookLaw, LooksRight, OnLeaf}
+use Rattle.dense_model.specs.LookLaws.{IsMesh, LookLaw, OnLeaf}
 
 -- two divisions in either order
 swapped : (x a n : ℕ) → x / a / n ≡ x / n / a

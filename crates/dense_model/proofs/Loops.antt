@@ -4,11 +4,8 @@ use Rattle.std.proofs.Math.ListN.{length-set}
 use Rattle.std.proofs.lemmas.List.{length-map}
 use Rattle.std.proofs.lemmas.List.Elements.{All-get_or}
 use Rattle.std.proofs.lemmas.List.FromFn.{fill_by_all}
-use Rattle.dense_model.specs.declared.row_stage.Ends.TheVariants.{Joined}
 use Rattle.dense_model.specs.Rows.{IsReady, RowState, row_next, rows_later}
-
-pub no_row : RowState
-no_row = record { moving = record { transport = record { right = 0; left = 0; denominator = 1 }; ends = Joined }; cells = [] }
+use Rattle.dense_model.specs.Flows.{no_row}
 
 -- the rows below are a stage later, the others are as before
 pub record NextBelow (old now : List RowState) (row : ℕ) : Type 0 where

@@ -1,11 +1,11 @@
 -- The next tree of a mesh is near the old one.
-use Rattle.std.proofs.Common.{◌≡◌, ◌⊎◌, inl, inr, ℕ, zero, suc, ◌+◌, ◌-◌, ◌<◌, ◌≤◌, Bool, true, false, ◌&&◌, ◌||◌, not, List, [], ◌∷◌, refl, arith, ap, subst, sym, ◌∙◌}
+use Rattle.std.proofs.Common.{◌≡◌, ◌⊎◌, inl, inr, ℕ, zero, suc, ◌+◌, ◌-◌, ◌<◌, ◌≤◌, Bool, true, false, ◌&&◌, ◌||◌, not, List, refl, arith, ap, subst, sym, ◌∙◌}
 use Rattle.std.specs.List.{list_all, range_with_len}
 use Rattle.std.proofs.lemmas.Bool.{and_parts, cases_eq, false≢true}
 use Rattle.morton_order.specs.declared.space.Loc.{Loc}
 use Rattle.morton_order.specs.Space.{child, parts}
 use Rattle.morton_order.proofs.Any.{or_cases}
-use Rattle.block_tree.specs.Tree.{IsLeaf, LiesIn, is_listed}
+use Rattle.block_tree.specs.Tree.{IsLeaf, is_listed}
 use Rattle.block_tree.specs.Least.{MayBeWanted}
 use Rattle.block_tree.specs.Change.{IsChange}
 use Rattle.block_tree.proofs.Changes.{changes_by_one_level}
@@ -15,8 +15,8 @@ use Rattle.dense_model.specs.Rules.{Rules}
 use Rattle.dense_model.specs.Mesh.{Mesh, is_inner}
 use Rattle.dense_model.specs.LookLaws.{IsMesh}
 use Rattle.dense_model.specs.Tags.{Tag}
-use Rattle.dense_model.specs.Remesh.{is_leaf_to_merge, is_leaf_to_split, is_merge, is_split, merges, next_inner, tag_at, wanted_next}
-use Rattle.dense_model.specs.RemeshLaws.{FitLevels, IsNextTree, NextTreeLaw}
+use Rattle.dense_model.specs.Remesh.{is_leaf_to_merge, is_leaf_to_split, is_merge, is_split, merges, tag_at, wanted_next}
+use Rattle.dense_model.specs.RemeshLaws.{FitLevels, NextTreeLaw}
 
 -- a listed leaf of a mesh is a leaf
 leaf_of_mesh : (m : Mesh) → IsMesh m → (l : Loc) → is_listed m.leaves l ≡ true → IsLeaf m.shape (is_inner m) l

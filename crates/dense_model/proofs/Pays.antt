@@ -1,12 +1,10 @@
 -- A cell pays at most what it has.
-use Rattle.std.proofs.Common.{◌≡◌, inl, inr, ℕ, zero, suc, ◌+◌, ◌-◌, ◌*◌, ◌/◌, ◌<◌, ◌≤◌, Bool, true, false, cond, not, nat_lt, pos, Option, Some, None, List, refl, arith, ap, subst, sym, ◌∙◌}
-use Rattle.std.specs.List.{filter, range_with_len, slice_index_or}
+use Rattle.std.proofs.Common.{◌≡◌, inl, inr, ℕ, zero, suc, ◌+◌, ◌*◌, ◌<◌, ◌≤◌, Bool, true, false, cond, not, nat_lt, pos, Option, Some, None, refl, arith, ap, subst, sym, ◌∙◌}
+use Rattle.std.specs.List.{slice_index_or}
 use Rattle.std.proofs.lemmas.Bool.{cases_eq}
 use Rattle.morton_order.specs.declared.space.Loc.{Loc}
 use Rattle.morton_order.specs.declared.space.Shape.{Shape}
 use Rattle.morton_order.specs.Space.{IsIn, child, child_number, parent, parts}
-use Rattle.morton_order.specs.Neighbours.{across}
-use Rattle.block_tree.specs.Tree.{IsLeaf, is_node}
 use Rattle.block_tree.specs.Behind.{children_at, is_high_half}
 use Rattle.block_tree.proofs.Ancestors.{node_parent}
 use Rattle.block_tree.proofs.Behinds.{half_passes}
@@ -18,10 +16,9 @@ use Rattle.dense_model.specs.Rules.{FaceKind, FieldRules, Rules, inflow, kind_at
 use Rattle.dense_model.specs.Mesh.{Mesh, block_of, cell_lattice, is_inner, stored}
 use Rattle.dense_model.specs.Look.{look}
 use Rattle.dense_model.specs.LookLaws.{IsMesh, OnLeaf}
-use Rattle.dense_model.specs.Faces.{cell_across, field_at, flux, flux_by, flux_outside, flux_where, own_flux, seen_across}
-use Rattle.dense_model.specs.Stage.{loss}
-use Rattle.dense_model.specs.PayLaws.{HasFittingRates, IsNoFiner, PaysAtMost, both_rates}
-use Rattle.dense_model.proofs.Flips.{SeesBack, flip, flipped_sum, sees_back}
+use Rattle.dense_model.specs.Faces.{cell_across, field_at, flux, flux_by, flux_outside, flux_where, own_flux}
+use Rattle.dense_model.specs.PayLaws.{IsNoFiner, PaysAtMost, both_rates}
+use Rattle.dense_model.proofs.Flips.{flip, flipped_sum, sees_back}
 use Rattle.dense_model.proofs.Looks.{look_law}
 use Rattle.dense_model.proofs.Portions.{all_shares, portion_by_more, portion_of_more, portion_within, portions_by, portions_over, rate_grows, sum_filter}
 

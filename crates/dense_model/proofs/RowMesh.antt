@@ -72,7 +72,7 @@ unfolding look
 look_is s n rows f place inside = stored_is s n rows f place inside
 
 -- the cell across a side of a cell
-across_is : (s : Shape) (n : ℕ) (rows : List (List ℕ)) (place : ℕ) (high : Bool) → IsRow s → cell_across (row_mesh s n rows) (row_cell place) 0 high ≡ option_map row_cell (step n (wraps s 0) high place)
+pub across_is : (s : Shape) (n : ℕ) (rows : List (List ℕ)) (place : ℕ) (high : Bool) → IsRow s → cell_across (row_mesh s n rows) (row_cell place) 0 high ≡ option_map row_cell (step n (wraps s 0) high place)
 across_is s n rows place high row =
     let along : root_along s 0 * n * factor s.dims 0 ^ 0 ≡ n =
     ap (λ (k : ℕ). k * n * factor s.dims 0 ^ 0) row.root1 ∙ ap (λ (d : ℕ). 1 * n * factor d 0 ^ 0) row.one_axis ∙ omega arith in
@@ -173,10 +173,10 @@ high_left_outside rules f reflecting out last = refl
 high_left_outside rules f inflow out last = refl
 
 -- the ends by whether the row is joined
-abbrev ends_by : Bool → Rules → ℕ → ℕ → Ends
+abbrev pub ends_by : Bool → Rules → ℕ → ℕ → Ends
 ends_by wrap rules dims f = cond wrap Joined (Apart (edge_at rules dims f false) (edge_at rules dims f true))
 
-moving_opened : (rules : Rules) (s : Shape) (f : ℕ) → moving_at rules s f ≡ record { transport = transport_at rules f; ends = ends_by (wraps s 0) rules s.dims f }
+pub moving_opened : (rules : Rules) (s : Shape) (f : ℕ) → moving_at rules s f ≡ record { transport = transport_at rules f; ends = ends_by (wraps s 0) rules s.dims f }
 unfolding moving_at
 moving_opened rules s f = refl
 
@@ -270,10 +270,10 @@ same_high rules s f row place inside = record {
 }
 
 -- what a cell gains and loses along one axis
-one_axis : (d : ℕ) (each : ℕ → ℕ) → d ≡ 1 → sum_to d each ≡ each 0
+pub one_axis : (d : ℕ) (each : ℕ → ℕ) → d ≡ 1 → sum_to d each ≡ each 0
 one_axis d each e = ap (λ (k : ℕ). sum_to k each) e ∙ omega arith
 
-width_is : (rules : Rules) (s : Shape) (n f place : ℕ) (r : List ℕ) → length r ≡ n → (high right : Bool) → side_flux rules s.dims f high right (get_or r place 0) (option_map (λ q. get_or r q 0) (step n (wraps s 0) high place)) ≡ side_flux rules s.dims f high right (get_or r place 0) (option_map (λ q. get_or r q 0) (step (length r) (wraps s 0) high place))
+pub width_is : (rules : Rules) (s : Shape) (n f place : ℕ) (r : List ℕ) → length r ≡ n → (high right : Bool) → side_flux rules s.dims f high right (get_or r place 0) (option_map (λ q. get_or r q 0) (step n (wraps s 0) high place)) ≡ side_flux rules s.dims f high right (get_or r place 0) (option_map (λ q. get_or r q 0) (step (length r) (wraps s 0) high place))
 width_is rules s n f place r cells high right = ap (λ (k : ℕ). side_flux rules s.dims f high right (get_or r place 0) (option_map (λ q. get_or r q 0) (step k (wraps s 0) high place))) (sym cells)
 
 -- the total of a cell after the stage

@@ -271,13 +271,13 @@ never_changes Plain e = refl
 never_changes Fixed e = cc
 never_changes Adaptive e = cc
 
-run_starts : (p : Settings) → IsOneRow p → run (rules_of p) (opening_of p) 0 ≡ running (opening_state (rules_of p) (opening_of p))
+pub run_starts : (p : Settings) → IsOneRow p → run (rules_of p) (opening_of p) 0 ≡ running (opening_state (rules_of p) (opening_of p))
 unfolding run
 run_starts p one =
     ap (λ (ls : List Loc). cond (nat_le (length ls) 65536) (running (opening_state (rules_of p) (opening_of p))) too_many_at_start)
     (leaves_are p.shape (opening_inner (rules_of p) (opening_of p)) one.row (outer_root p one.statics one.levels))
 
-run_goes_on : (p : Settings) (c : ℕ) (s : State) → IsOneRow p → run (rules_of p) (opening_of p) c ≡ running s → run (rules_of p) (opening_of p) (suc c) ≡ running (before_remesh (rules_of p) s)
+pub run_goes_on : (p : Settings) (c : ℕ) (s : State) → IsOneRow p → run (rules_of p) (opening_of p) c ≡ running s → run (rules_of p) (opening_of p) (suc c) ≡ running (before_remesh (rules_of p) s)
 unfolding run
 run_goes_on p c s one is =
     ap (next_outcome (rules_of p) (suc c)) is

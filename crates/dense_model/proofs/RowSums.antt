@@ -74,7 +74,7 @@ come_in t (Apart Closed (Open b)) first last = record { at_most = omega arith }
 come_in t (Apart (Open a) (Open b)) first last = record { at_most = omega arith }
 
 -- the sum below a place after the stage, with what passes the two faces around
-below_place : (m : Moving) (row : List ℕ) → AreWithin m.transport → (k : ℕ) → k ≤ length row
+pub below_place : (m : Moving) (row : List ℕ) → AreWithin m.transport → (k : ℕ) → k ≤ length row
     → sum_to k (total_next m row) + (passing m row 0).left + (passing m row k).right ≡ sum_to k (λ j. get_or row j 0) + (passing m row 0).right + (passing m row k).left
 below_place m row w zero within = omega arith
 below_place m row w (suc k) within =
@@ -84,7 +84,7 @@ below_place m row w (suc k) within =
     let here : sum_to (suc k) (total_next m row) + (passing m row 0).left + (passing m row (k + 1)).right ≡ sum_to (suc k) (λ j. get_or row j 0) + (passing m row 0).right + (passing m row (k + 1)).left = omega (arith, before, pays) in
     subst (λ (n : ℕ). sum_to (suc k) (total_next m row) + (passing m row 0).left + (passing m row n).right ≡ sum_to (suc k) (λ j. get_or row j 0) + (passing m row 0).right + (passing m row n).left) e here
 
-row_sum_staged : (m : Moving) (row : List ℕ) → row_sum (row_staged m row) ≡ sum_to (length row) (total_next m row)
+pub row_sum_staged : (m : Moving) (row : List ℕ) → row_sum (row_staged m row) ≡ sum_to (length row) (total_next m row)
 unfolding row_staged
 row_sum_staged m row = sum_table (length row) (total_next m row) (λ (t : ℕ). t)
 

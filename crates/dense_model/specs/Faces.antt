@@ -1,5 +1,5 @@
 -- What passes a face.
-use Rattle.std.specs.Prelude.{ℕ, ◌+◌, ◌*◌, ◌/◌, ◌^◌, Bool, true, false, cond, not, Option, Some, None, List, [], slice_index}
+use Rattle.std.specs.Prelude.{ℕ, ◌*◌, ◌/◌, ◌^◌, Bool, true, false, cond, not, Option, Some, None, List, [], slice_index}
 use Rattle.std.specs.List.{slice_index_or}
 use Rattle.morton_order.specs.declared.space.Loc.{Loc}
 use Rattle.morton_order.specs.Space.{child}
@@ -7,7 +7,7 @@ use Rattle.morton_order.specs.Neighbours.{across}
 use Rattle.block_tree.specs.Behind.{children_at}
 use Rattle.mesh_num.specs.Portion.{portion}
 use Rattle.dense_model.specs.Sums.{sum_over}
-use Rattle.dense_model.specs.Rules.{Rules, FieldRules, FaceKind, periodic, outflow, reflecting, inflow, kind_at, rate_of, side_number}
+use Rattle.dense_model.specs.Rules.{Rules, FieldRules, FaceKind, reflecting, inflow, kind_at, rate_of, side_number}
 use Rattle.dense_model.specs.Mesh.{Mesh, block_of, cell_lattice, is_inner}
 use Rattle.dense_model.specs.Look.{look}
 

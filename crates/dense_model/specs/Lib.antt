@@ -19,6 +19,7 @@ pub mod WorkedChanges
 pub mod OfProblem
 pub mod RunFiles
 pub mod Rows
+pub mod Flows
 pub mod RowRun
 pub mod RowTexts
 pub mod RunLaws

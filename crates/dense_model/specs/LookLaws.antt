@@ -1,8 +1,8 @@
 -- What a mesh has to keep, and what the look is on it.
-use Rattle.std.specs.Prelude.{◌≡◌, ◌↔◌, ℕ, ◌≤◌, ◌<◌, IsTrue}
+use Rattle.std.specs.Prelude.{◌≡◌, ℕ, ◌≤◌, ◌<◌, IsTrue}
 use Rattle.morton_order.specs.declared.space.Loc.{Loc}
-use Rattle.morton_order.specs.Space.{IsIn, IsShape, child, child_number, parent, parts}
-use Rattle.block_tree.specs.Tree.{IsBalanced, IsLeaf, IsTree, is_listed}
+use Rattle.morton_order.specs.Space.{IsShape, child, child_number, parent, parts}
+use Rattle.block_tree.specs.Tree.{IsBalanced, IsLeaf, IsTree}
 use Rattle.block_tree.specs.Leaves.{leaves_of}
 use Rattle.mesh_num.specs.Share.{share}
 use Rattle.dense_model.specs.Sums.{sum_to}

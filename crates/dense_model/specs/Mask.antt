@@ -1,13 +1,13 @@
 -- Which blocks hold which fields: the rules of allocation, over the meshes of the dense run.
-use Rattle.std.specs.Prelude.{◌==◌, ℕ, zero, suc, ◌+◌, ◌-◌, ◌*◌, ◌/◌, ◌%◌, Bool, true, false, cond, ◌&&◌, ◌||◌, not, nat_lt, nat_le, Option, Some, None, List, [], ◌∷◌, length, map, count_by}
+use Rattle.std.specs.Prelude.{◌==◌, ℕ, ◌+◌, ◌%◌, Bool, true, false, cond, ◌&&◌, ◌||◌, not, nat_lt, nat_le, Option, Some, None, List, [], length, map, count_by}
 use Rattle.std.specs.List.{enumerate_from, list_all, list_any, range_with_len, slice_index_or}
 use Rattle.morton_order.specs.declared.space.Loc.{Loc}
 use Rattle.morton_order.specs.Space.{axis_of, child, parent, parts}
 use Rattle.morton_order.specs.Neighbours.{across}
 use Rattle.block_tree.specs.Tree.{is_listed, is_node}
 use Rattle.dense_model.specs.Sums.{table}
-use Rattle.dense_model.specs.Rules.{Rules, FieldRules}
-use Rattle.dense_model.specs.Mesh.{Mesh, block_of, block_size, cell_at, cells_along, is_inner, leaf_number, stored}
+use Rattle.dense_model.specs.Rules.{Rules}
+use Rattle.dense_model.specs.Mesh.{Mesh, block_size, cell_at, cells_along, is_inner, leaf_number, stored}
 use Rattle.dense_model.specs.Look.{look}
 use Rattle.dense_model.specs.Faces.{field_at, outside}
 

@@ -1,5 +1,5 @@
 -- What the next tree is.
-use Rattle.std.specs.Prelude.{◌≡◌, ℕ, ◌+◌, ◌-◌, ◌≤◌, Bool, List, IsTrue}
+use Rattle.std.specs.Prelude.{◌+◌, ◌≤◌, List, IsTrue}
 use Rattle.morton_order.specs.declared.space.Loc.{Loc}
 use Rattle.block_tree.specs.Tree.{IsLeaf, LiesIn}
 use Rattle.block_tree.specs.Least.{IsLeast}

@@ -1,5 +1,5 @@
 -- The run of one block along one axis, as rows of cells: one row for each field.
-use Rattle.std.specs.Prelude.{◌≡◌, ℕ, zero, suc, ◌*◌, ◌≤◌, Bool, true, false, cond, List, [], ◌∷◌, length, map, replicate, slice_index}
+use Rattle.std.specs.Prelude.{◌≡◌, ℕ, zero, suc, ◌+◌, ◌*◌, ◌≤◌, Bool, true, false, cond, List, [], ◌∷◌, length, map, replicate, slice_index}
 use Rattle.std.specs.List.{slice_index_or}
 use Rattle.morton_order.specs.declared.space.Loc.{Loc}
 use Rattle.morton_order.specs.declared.space.Shape.{Shape}
@@ -14,7 +14,9 @@ use Rattle.dense_model.specs.Mesh.{Mesh}
 use Rattle.dense_model.specs.Rules.{Rules, FaceKind, periodic, outflow, reflecting, inflow, kind_at, rate_of}
 use Rattle.dense_model.specs.Faces.{field_at, outside}
 use Rattle.dense_model.specs.Run.{opening_total}
+use Rattle.dense_model.specs.declared.flows.BoundaryFlow.{BoundaryFlow}
 use Rattle.dense_model.specs.Rows.{RowState, row_staged}
+use Rattle.dense_model.specs.Flows.{flow_of, flow_over, no_flow}
 use Rattle.dense_model.specs.OfProblem.{is_built, rules_of, opening_of}
 
 -- a cell of the block
@@ -67,8 +69,22 @@ states_of p rows = table (length (rules_of p).fields) (λ f. record { moving = m
 abbrev pub totals_in : List RowState → List (List ℕ)
 totals_in rows = map (λ (r : RowState). r.cells) rows
 
+-- what passes the faces of the domain in the stage after that many stages
+abbrev pub flow_at : Settings → ℕ → ℕ → BoundaryFlow
+flow_at p stages f = flow_of (moving_at (rules_of p) p.shape f) (slice_index_or (rows_at p stages) f [])
+
+-- what passed them in the stages of the last cycle, nothing before the first
+unfoldable pub flows_at : Settings → ℕ → List BoundaryFlow
+flows_at p zero = table (length (rules_of p).fields) (λ f. no_flow)
+flows_at p (suc cycle) = table (length (rules_of p).fields) (λ f. flow_over p.nstages (λ n. flow_at p (cycle * p.nstages + n) f))
+
 -- the kept rows are those after all stages of that many cycles
 pub record IsRunAt (p : Settings) (cycle : ℕ) (rows : List RowState) : Type 0 where
   pub built : is_built p ≡ true
   pub within : cycle ≤ p.nlim
   pub rows_are : rows ≡ states_of p (rows_at p (cycle * p.nstages))
+
+-- and the kept flows are those of the last cycle
+pub record IsKept (p : Settings) (cycle : ℕ) (rows : List RowState) (flows : List BoundaryFlow) : Type 0 where
+  pub run : IsRunAt p cycle rows
+  pub flows_are : flows ≡ flows_at p cycle

@@ -1,5 +1,5 @@
 -- The rules of a run, as far as its numbers need them.
-use Rattle.std.specs.Prelude.{ℕ, zero, suc, ◌+◌, ◌*◌, ◌^◌, ℤ, pos, negsuc, Bool, cond, List}
+use Rattle.std.specs.Prelude.{ℕ, zero, suc, ◌+◌, ◌*◌, ℤ, pos, negsuc, Bool, cond, List}
 use Rattle.std.specs.List.{slice_index_or}
 use Rattle.mesh_num.specs.Rate.{rate}
 

@@ -1,11 +1,11 @@
 -- The dense run: the opening mesh, and cycle after cycle.
-use Rattle.std.specs.Prelude.{◌==◌, ℕ, zero, suc, ◌+◌, ◌-◌, ◌*◌, ◌%◌, Bool, true, false, cond, ◌&&◌, nat_lt, nat_le, List, [], length, map, replicate, slice_index}
+use Rattle.std.specs.Prelude.{◌==◌, ℕ, zero, suc, ◌-◌, ◌%◌, Bool, cond, ◌&&◌, nat_le, List, [], length, replicate, slice_index}
 use Rattle.std.specs.List.{list_all, range_with_len}
 use Rattle.morton_order.specs.declared.space.Loc.{Loc}
 use Rattle.morton_order.specs.declared.space.Shape.{Shape}
 use Rattle.morton_order.specs.Space.{axis_of}
 use Rattle.block_tree.specs.declared.boxes.StaticBox.{StaticBox}
-use Rattle.block_tree.specs.Leaves.{inner_of, leaves_of, roots}
+use Rattle.block_tree.specs.Leaves.{leaves_of, roots}
 use Rattle.block_tree.specs.Least.{least, wanted_by}
 use Rattle.dense_model.specs.Sums.{sum_over, table}
 use Rattle.dense_model.specs.Rules.{Rules}

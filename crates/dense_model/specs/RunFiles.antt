@@ -1,11 +1,11 @@
 -- What a run of a problem shows: its dumps, how many leaves it has, and what its totals add up to.
 use Rattle.std.specs.Prelude.{◌==◌, ℕ, ◌+◌, ◌-◌, ◌%◌, Bool, ◌||◌, cond, List, [], ◌∷◌, ◌++◌, length, map, replicate, codes}
-use Rattle.std.specs.List.{filter, range_with_len}
+use Rattle.std.specs.List.{filter, range_with_len, slice_index_or}
 use Rattle.std.specs.Fmt.{decimal}
 use Rattle.problem_set.specs.Settings.{Settings}
 use Rattle.dense_model.specs.Sums.{sum_over}
 use Rattle.dense_model.specs.Rules.{Rules}
-use Rattle.dense_model.specs.Run.{Outcome, running, too_many_at_start, too_many_at, run}
+use Rattle.dense_model.specs.Run.{Flow, Outcome, running, too_many_at_start, too_many_at, run}
 use Rattle.dense_model.specs.Texts.{dump_text, total_of}
 use Rattle.dense_model.specs.OfProblem.{rules_of, opening_of}
 
@@ -45,6 +45,27 @@ total_in fields (too_many_at _ _) = 0
 
 abbrev pub total_after : Settings → ℕ → ℕ
 total_after p cycle = total_in (length (rules_of p).fields) (run_of p cycle)
+
+-- a field's flows in the last cycle of a run, none where it has stopped
+abbrev pub nothing_flowed : Flow
+nothing_flowed = record { inflow = 0; outflow = 0; made = 0; used = 0 }
+
+abbrev pub flow_in : ℕ → Outcome → Flow
+flow_in f (running s) = slice_index_or s.flows f nothing_flowed
+flow_in f too_many_at_start = nothing_flowed
+flow_in f (too_many_at _ _) = nothing_flowed
+
+abbrev pub flow_after : Settings → ℕ → ℕ → Flow
+flow_after p cycle f = flow_in f (run_of p cycle)
+
+-- what a field's totals add up to, 0 where the run has stopped
+abbrev pub field_total_in : ℕ → Outcome → ℕ
+field_total_in f (running s) = total_of s.mesh f
+field_total_in f too_many_at_start = 0
+field_total_in f (too_many_at _ _) = 0
+
+abbrev pub field_total_after : Settings → ℕ → ℕ → ℕ
+field_total_after p cycle f = field_total_in f (run_of p cycle)
 
 -- a dump follows each cycle whose number is a multiple of `dump_every`, the opening included, and the last cycle
 abbrev pub is_dumped : Settings → ℕ → Bool

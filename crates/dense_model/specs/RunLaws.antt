@@ -10,7 +10,7 @@ use Rattle.dense_model.specs.Run.{State, running, staged_mesh}
 use Rattle.dense_model.specs.Texts.{total_of}
 use Rattle.dense_model.specs.OfProblem.{is_built, rules_of}
 use Rattle.dense_model.specs.RowRun.{row_cell}
-use Rattle.dense_model.specs.RunFiles.{run_of}
+use Rattle.dense_model.specs.RunFiles.{field_total_after, flow_after, run_of}
 
 -- a mesh of a run: that many cycles and stages of the next one were run, of no more than the run has
 pub record IsMeshOf (p : Problem) (cycle stages : ℕ) (m : Mesh) : Type 0 where
@@ -30,3 +30,8 @@ NoTotalFallsBelowZero = (p : Problem) (cycle stages : ℕ) (m : Mesh) → IsMesh
 abbrev pub NoSumPassesTheBound : Type 0
 NoSumPassesTheBound = (p : Problem) (cycle stages : ℕ) (m : Mesh) → IsMeshOf p cycle stages m →
     sum_over (range_with_len 0 (length p.moves)) (total_of m) ≤ 2 ^ 62 - 1
+
+-- in a cycle a field's total changes by what comes in and goes out through the faces of the domain alone
+abbrev pub TotalsChangeByFlow : Type 0
+TotalsChangeByFlow = (p : Problem) (cycle f : ℕ) → is_built (settings_of p) ≡ true → cycle < p.nlim → f < length p.moves →
+    field_total_after (settings_of p) (cycle + 1) f + (flow_after (settings_of p) (cycle + 1) f).outflow ≡ field_total_after (settings_of p) cycle f + (flow_after (settings_of p) (cycle + 1) f).inflow

@@ -1,5 +1,5 @@
 -- A stage: what each cell gains and loses through its faces, all taken from the mesh before the stage.
-use Rattle.std.specs.Prelude.{ℕ, ◌+◌, ◌-◌, Bool, true, false, Option, Some, None, List, length, map}
+use Rattle.std.specs.Prelude.{ℕ, ◌+◌, ◌-◌, true, false, Option, Some, None, length, map}
 use Rattle.morton_order.specs.declared.space.Loc.{Loc}
 use Rattle.dense_model.specs.Sums.{sum_to, sum_over, table}
 use Rattle.dense_model.specs.Rules.{Rules}

@@ -1,9 +1,8 @@
 -- What a stage conserves.
 use Rattle.std.specs.Prelude.{◌≡◌, ℕ, ◌+◌, ◌<◌, length}
-use Rattle.morton_order.specs.declared.space.Loc.{Loc}
 use Rattle.dense_model.specs.Rules.{Rules}
 use Rattle.dense_model.specs.Mesh.{Mesh, stored}
-use Rattle.dense_model.specs.Stage.{inflow_of, outflow_of, stage, staged, sum_cells}
+use Rattle.dense_model.specs.Stage.{inflow_of, outflow_of, stage, sum_cells}
 use Rattle.dense_model.specs.LookLaws.{IsMesh}
 use Rattle.dense_model.specs.PayLaws.{HasFittingRates, IsNoFiner}
 

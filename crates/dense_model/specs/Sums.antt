@@ -1,5 +1,5 @@
 -- Sums, counts and tables.
-use Rattle.std.specs.Prelude.{ℕ, zero, suc, ◌+◌, Bool, true, false, cond, List, [], ◌∷◌, map, max}
+use Rattle.std.specs.Prelude.{ℕ, zero, suc, ◌+◌, List, [], ◌∷◌, map, max}
 use Rattle.std.specs.List.{range_with_len}
 
 -- the sum of what each number below n gives

@@ -1,12 +1,12 @@
 -- The texts of a dump and of the history.
-use Rattle.std.specs.Prelude.{◌==◌, ℕ, zero, suc, ◌+◌, ◌-◌, ◌*◌, ◌/◌, Bool, cond, not, List, [], ◌∷◌, ◌++◌, length, map, replicate, codes, count_by, drop, take, sum}
+use Rattle.std.specs.Prelude.{◌==◌, ℕ, ◌*◌, Bool, cond, List, [], ◌∷◌, ◌++◌, length, map, codes, count_by, drop, take}
 use Rattle.std.specs.List.{enumerate_from, flat_map, join_with_byte, list_all, range_with_len, slice_index_or}
 use Rattle.std.specs.Fmt.{decimal}
 use Rattle.morton_order.specs.declared.space.Loc.{Loc}
 use Rattle.morton_order.specs.Space.{root_along}
 use Rattle.dense_model.specs.Sums.{sum_over, table}
 use Rattle.dense_model.specs.Rules.{Rules, FieldRules}
-use Rattle.dense_model.specs.Mesh.{Mesh, block_size, cells_along, totals_on}
+use Rattle.dense_model.specs.Mesh.{Mesh, cells_along, totals_on}
 use Rattle.dense_model.specs.Faces.{field_at}
 use Rattle.dense_model.specs.Mask.{Mask, blocks_with}
 use Rattle.dense_model.specs.Run.{Flow}

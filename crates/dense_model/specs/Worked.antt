@@ -1,21 +1,15 @@
 -- Small worked examples of the rules, with their numbers written out.
-use Rattle.std.specs.Prelude.{◌≡◌, ◌==◌, ℕ, ◌+◌, ◌-◌, nat_le, ℤ, pos, negsuc, Bool, true, false, cond, List, [], ◌∷◌, ◌++◌, codes, replicate, map, length}
+use Rattle.std.specs.Prelude.{◌≡◌, ℕ, ◌+◌, ◌-◌, nat_le, ℤ, pos, Bool, true, false, cond, List, [], ◌∷◌, ◌++◌, codes, replicate, map, length}
 use Rattle.std.specs.List.{slice_index_or}
 use Rattle.morton_order.specs.declared.space.Loc.{Loc}
-use Rattle.morton_order.specs.declared.space.Shape.{Shape}
 use Rattle.block_tree.specs.declared.boxes.StaticBox.{StaticBox}
-use Rattle.block_tree.specs.Leaves.{inner_of, leaves_of}
-use Rattle.block_tree.specs.Tree.{is_listed}
 use Rattle.mesh_num.specs.Share.{share}
 use Rattle.dense_model.specs.Sums.{table}
-use Rattle.dense_model.specs.Rules.{Rules, FieldRules, ReactionRules, CriterionRules, FaceKind, periodic, outflow, reflecting, inflow, peak}
-use Rattle.dense_model.specs.Mesh.{Mesh}
+use Rattle.dense_model.specs.Rules.{Rules, FieldRules, FaceKind, periodic, outflow, reflecting, inflow}
 use Rattle.dense_model.specs.Look.{look}
 use Rattle.dense_model.specs.Faces.{flux}
-use Rattle.dense_model.specs.Tags.{Tag, split, keep, merge}
-use Rattle.dense_model.specs.Remesh.{next_inner}
 use Rattle.dense_model.specs.Mask.{blocks_with}
-use Rattle.dense_model.specs.Run.{Flow, Opening, Outcome, State, StartBox, opening_mesh, run, running, too_many_at, too_many_at_start}
+use Rattle.dense_model.specs.Run.{Flow, Opening, Outcome, StartBox, opening_mesh, run, running}
 
 -- a transported field with velocities along the three axes
 abbrev pub transported : List ℕ → Bool → ℤ → ℤ → ℤ → FieldRules

@@ -1,15 +1,14 @@
 -- Worked examples of what is kept where, of reactions, of changing trees and of three axes.
-use Rattle.std.specs.Prelude.{◌≡◌, ℕ, ◌+◌, ◌-◌, pos, Bool, true, false, List, [], ◌∷◌, ◌++◌, codes, replicate, map, length}
-use Rattle.std.specs.List.{list_all, range_with_len}
+use Rattle.std.specs.Prelude.{◌≡◌, ℕ, pos, Bool, true, false, List, [], ◌∷◌, ◌++◌, codes, replicate, length}
 use Rattle.morton_order.specs.declared.space.Loc.{Loc}
 use Rattle.block_tree.specs.Behind.{behind, fine}
 use Rattle.block_tree.specs.Least.{least, wanted_by}
 use Rattle.block_tree.specs.Leaves.{inner_of, leaves_of}
 use Rattle.block_tree.specs.Tree.{is_listed}
-use Rattle.dense_model.specs.Rules.{Rules, FieldRules, reflecting, periodic, peak}
+use Rattle.dense_model.specs.Rules.{Rules, FieldRules, periodic, peak}
 use Rattle.dense_model.specs.Mesh.{Mesh}
-use Rattle.dense_model.specs.Tags.{Tag, split, keep, merge}
-use Rattle.dense_model.specs.Remesh.{next_inner, remap}
+use Rattle.dense_model.specs.Tags.{Tag, keep, merge}
+use Rattle.dense_model.specs.Remesh.{next_inner}
 use Rattle.dense_model.specs.Run.{Opening, run}
 use Rattle.dense_model.specs.Worked.{at, blocks_in, blocks_over, cell_box, closed_faces, flow_in, leaves_in, opening_on, plain_rules, refined_box, reflecting_rules, totals_in, transported}
 

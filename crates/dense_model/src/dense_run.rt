@@ -1,14 +1,16 @@
-ghost use Rattle.std.specs.Prelude.{◌≡◌, ◌+◌, ◌-◌, ◌++◌, ◌<◌, ◌≤◌, ◌↔◌, IfOk, OnOk, OnErr, IsTrue, true, string_bytes, map, length, All, ℕ, ◌^◌};
+ghost use Rattle.std.specs.Prelude.{◌≡◌, ◌+◌, ◌-◌, ◌++◌, ◌<◌, ◌≤◌, ◌↔◌, IfOk, OnOk, OnErr, IsTrue, true, string_bytes, map, length, replicate, All, ℕ, ◌^◌};
 ghost use Rattle.problem_set.specs.SettingsOf.{settings_of};
 ghost use Rattle.dense_model.specs.OfProblem.{is_built, rules_of};
 ghost use Rattle.dense_model.specs.Rows.{IsReady, row_next, rows_later, row_sum, sum_all};
 ghost use Rattle.dense_model.specs.RowRun.{states_of, opening_rows, empty_states, totals_in};
-ghost use Rattle.dense_model.specs.RunFiles.{dump_after, dumps_at, files_until, is_dumped, leaves_after, total_after};
+ghost use Rattle.dense_model.specs.Flows.{flows_later, no_flow};
+ghost use Rattle.dense_model.specs.RunFiles.{dump_after, dumps_at, files_until, flow_after, is_dumped, leaves_after, total_after};
 
 use crate::dense_dump;
 use crate::dump_file::DumpFile;
 use crate::fault::DenseFault;
 use crate::field_row::FieldRow;
+use crate::flows::{BoundaryFlow, add_flows, clear_flows};
 use crate::of_problem::moving_at;
 use mesh_num::NoMemory;
 use package_fields::{Items, Name};
@@ -22,18 +24,20 @@ pub struct DenseRun<'a> {
     problem: &'a Problem,
     cycle: u32,
     rows: Vec<FieldRow>,
+    /// What passed the faces of the domain in the last cycle, field by field.
+    flows: Vec<BoundaryFlow>,
 }
 
 impl<'a> Model for DenseRun<'a> {
     ghost use Rattle.problem_set.specs.SettingsOf.{settings_of};
     ghost use Rattle.dense_model.specs.RunFiles.{RunAt};
-    ghost use Rattle.dense_model.specs.RowRun.{IsRunAt};
+    ghost use Rattle.dense_model.specs.RowRun.{IsKept};
 
     ghost Value = { RunAt };
 
     ghost view = { λ r. record { problem = settings_of r.problem.now; cycle = r.cycle } };
 
-    ghost invariant = { λ r. IsRunAt (settings_of r.problem.now) r.cycle r.rows.items };
+    ghost invariant = { λ r. IsKept (settings_of r.problem.now) r.cycle r.rows.items r.flows.items };
 }
 
 impl<'a> DenseRun<'a> {
@@ -45,10 +49,12 @@ impl<'a> DenseRun<'a> {
         ensures { IfOk result (λ run. run ≡ record { problem = settings_of problem.now; cycle = 0 }) }
     {
         let rows = opening_rows(alloc, problem)?;
+        let flows = empty_flows(alloc, problem)?;
         Ok(DenseRun {
             problem,
             cycle: 0,
             rows,
+            flows,
         })
     }
 
@@ -74,9 +80,18 @@ impl<'a> DenseRun<'a> {
         ensures next { self.new ≡ record self.old { cycle = self.old.cycle + 1 } }
         ensures done { OnErr result ⊥ }
     {
-        advance(&mut self.rows, self.problem.nstages);
+        advance(&mut self.rows, &mut self.flows, self.problem.nstages);
         self.cycle += 1;
         Ok(())
+    }
+
+    /// What passed the faces of the domain of a field in the last cycle; nothing before the first one.
+    pub fn boundary_flow(&self, field: u32) -> BoundaryFlow
+        requires { field < length self.now.problem.moves }
+        ensures inflow { result.inflow ≡ (flow_after self.now.problem self.now.cycle field).inflow }
+        ensures outflow { result.outflow ≡ (flow_after self.now.problem self.now.cycle field).outflow }
+    {
+        self.flows[field as usize]
     }
 
     /// The text of the dump after the cycles that were run.
@@ -177,6 +192,17 @@ fn empty_rows(alloc: Global, problem: &Problem) -> Result<Vec<FieldRow>, NoMemor
     Ok(rows)
 }
 
+/// Nothing for each field.
+fn empty_flows(alloc: Global, problem: &Problem) -> Result<Vec<BoundaryFlow>, NoMemory>
+    ensures { IfOk result (λ flows. flows.items ≡ replicate (length problem.now.moves) no_flow) }
+{
+    let none = BoundaryFlow {
+        inflow: 0,
+        outflow: 0,
+    };
+    Ok(vec![in alloc; none; problem.moves.len()]?)
+}
+
 /// Adds the amounts of the boxes to the cells that they hold.
 fn fill_boxes(rows: &mut Vec<FieldRow>, problem: &Problem)
     requires built { is_built (settings_of problem.now) ≡ true }
@@ -193,12 +219,16 @@ fn fill_boxes(rows: &mut Vec<FieldRow>, problem: &Problem)
     }
 }
 
-/// That many stages, in place.
-fn advance(rows: &mut Vec<FieldRow>, stages: u32)
-    requires { (k : ℕ) → k < stages → All IsReady (rows_later k rows.old.items) }
-    ensures { rows.new.items ≡ rows_later stages rows.old.items }
+/// That many stages, in place. The flows are those of these stages.
+fn advance(rows: &mut Vec<FieldRow>, flows: &mut Vec<BoundaryFlow>, stages: u32)
+    requires ready { (k : ℕ) → k < stages → All IsReady (rows_later k rows.old.items) }
+    requires as_many { length flows.old.items ≡ length rows.old.items }
+    ensures advanced { rows.new.items ≡ rows_later stages rows.old.items }
+    ensures flowed { flows.new.items ≡ flows_later stages rows.old.items }
 {
+    clear_flows(flows);
     for stage in 0..stages {
+        add_flows(flows, rows.as_slice());
         advance_once(rows);
     }
 }

@@ -1,7 +1,9 @@
 ghost use Rattle.std.specs.Prelude.{◌≡◌, ℕ, ◌+◌, ◌<◌, ◌≤◌, ◌^◌, ◌&&◌, nat_le, cond, IfOk, map, length, replicate, slice_index, All};
 ghost use Rattle.std.specs.List.{range_with_len};
 ghost use Rattle.dense_model.specs.Rows.{IsReady, row_next};
+ghost use Rattle.dense_model.specs.Flows.{flow_of as row_flow_of};
 
+use crate::flows::{BoundaryFlow, flow_of};
 use crate::row_stage::{Moving, advance};
 use mesh_num::NoMemory;
 use std::alloc::Global;
@@ -46,6 +48,14 @@ impl FieldRow {
         ensures { self.new ≡ record self.old { cells = map (λ cell. slice_index self.old.cells cell + cond (nat_le first cell && nat_le cell last) amount 0) (range_with_len 0 (length self.old.cells)) } }
     {
         add_amount(self.cells.as_mut_slice(), first, last, amount);
+    }
+
+    /// What passes the faces of the domain in a stage.
+    pub fn flow(&self) -> BoundaryFlow
+        requires { IsReady self.now }
+        ensures { result ≡ row_flow_of self.now.moving self.now.cells }
+    {
+        flow_of(self.cells.as_slice(), self.moving)
     }
 
     /// One stage, in place.

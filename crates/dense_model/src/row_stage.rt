@@ -77,7 +77,7 @@ fn between(transport: Transport, below: u64, above: u64) -> Passing
 }
 
 /// What passes the low face of the domain.
-fn low_face(moving: Moving, row: &[u64]) -> Passing
+pub fn low_face(moving: Moving, row: &[u64]) -> Passing
     requires proper { IsProper moving }
     requires some { 0 < length row.now }
     ensures { result ≡ low_face_of moving row.now }
@@ -90,7 +90,7 @@ fn low_face(moving: Moving, row: &[u64]) -> Passing
 }
 
 /// What passes the high face of the domain.
-fn high_face(moving: Moving, row: &[u64]) -> Passing
+pub fn high_face(moving: Moving, row: &[u64]) -> Passing
     requires proper { IsProper moving }
     requires some { 0 < length row.now }
     ensures { result ≡ high_face_of moving row.now }
