@@ -2,7 +2,8 @@
 //!
 //! - `specs/` defines meshes, the look, stages, reactions, tags, masks and the run over cycles, for one to three axes.
 //! - `DenseRun` runs a problem of one block along one axis. It keeps one row of totals a field, and changes it in
-//!   place; its dumps are those of the definitions, which speak of faces and looks.
+//!   place; its dumps, and what it says of the flow through the faces of the domain, are those of the definitions,
+//!   which speak of faces and looks.
 //! - The functions of `laws`, `run_laws` and `worked` carry laws of the definitions and of every run: they have empty
 //!   bodies, and their contracts are proved.
 #![tactic(auto)]
