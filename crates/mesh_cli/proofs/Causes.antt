@@ -10,8 +10,8 @@ use Rattle.mesh_input.specs.declared.outcome.Outcome.TheVariants.{Done, Listed, 
 use Rattle.mesh_input.specs.declared.outcome.Status.{Status}
 use Rattle.mesh_input.specs.declared.outcome.Status.TheVariants as status
 use Rattle.mesh_input.specs.Statuses.{status_of}
-use Rattle.mesh_cli.specs.Causes.{Completes, CompletesFile, IsOrNoMemory, NamedRose, status_for}
-use Rattle.mesh_cli.specs.Ends.{EndsAccepted, EndsBy, EndsJudged, EndsUnread, EndsWith}
+use Rattle.mesh_cli.specs.Causes.{Completes, IsOrNoMemory, NamedRose, status_for}
+use Rattle.mesh_cli.specs.Ends.{EndsAccepted, EndsBy, EndsUnread, EndsWith}
 use Rattle.mesh_cli.specs.Printing.{Tells}
 use Rattle.mesh_cli.specs.Verdicts.{Verdict, runs, lists, refused, verdict}
 

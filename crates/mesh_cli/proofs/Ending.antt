@@ -1,13 +1,11 @@
 -- How a call ends, step by step.
-use Rattle.std.proofs.Common.{◌≡◌, ℕ, ◌+◌, ◌^◌, ◌≤◌, ◌⊎◌, inl, inr, min, Bool, true, false, List, Option, Result, Ok, Err, refl, sym, ◌∙◌, ap, subst, arith}
+use Rattle.std.proofs.Common.{◌≡◌, ℕ, ◌≤◌, ◌⊎◌, inl, inr, Bool, true, false, List, Option, Result, Ok, Err, refl, sym, ap, subst, arith}
 use Rattle.std.specs.Prelude.{if◌then◌else◌}
-use Rattle.input_file.specs.Texts.{Text}
 use Rattle.problem_set.specs.Settings.{Settings}
 use Rattle.dense_model.specs.OfProblem.{is_built}
 use Rattle.mesh_outside.specs.declared.files.File.{File}
 use Rattle.mesh_outside.specs.declared.files.Gained.{Gained}
 use Rattle.mesh_outside.specs.Fault.{Rose}
-use Rattle.mesh_outside.specs.Gained.{Gains, GainsCut}
 use Rattle.mesh_words.specs.Accepted.{Accepted as Said}
 use Rattle.mesh_words.specs.declared.fault.WordsFault.{WordsFault}
 use Rattle.mesh_words.specs.declared.fault.WordsFault.TheVariants as words_fault
@@ -18,9 +16,9 @@ use Rattle.mesh_input.specs.declared.fault.InputFault.{InputFault}
 use Rattle.mesh_input.specs.declared.fault.InputFault.TheVariants as input_fault
 use Rattle.mesh_input.specs.declared.outcome.Outcome.{Outcome}
 use Rattle.mesh_input.specs.declared.outcome.Outcome.TheVariants.{Done, Listed, Usage, Refused, ReadFault, WriteFault, NoMemory}
-use Rattle.mesh_input.specs.Inputs.{Accepted, accepted}
-use Rattle.mesh_input.specs.Answers.{AnswersFile, Gives, HasInput, HasReadCause, seen_input}
-use Rattle.mesh_cli.specs.Ends.{EndsAccepted, EndsBy, EndsJudged, EndsUnread, EndsWith, RunEnds}
+use Rattle.mesh_input.specs.Inputs.{Accepted}
+use Rattle.mesh_input.specs.Answers.{AnswersFile, Gives, HasReadCause}
+use Rattle.mesh_cli.specs.Ends.{EndsAccepted, EndsBy, EndsWith, RunEnds}
 use Rattle.mesh_cli.specs.Outcomes.{outcome_of_fault, outcome_of_usage}
 use Rattle.mesh_cli.specs.Verdicts.{ComesTo, Verdict, lists, refused, runs, verdict_by, verdict_on}
 

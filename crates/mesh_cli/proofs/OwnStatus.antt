@@ -2,7 +2,6 @@
 use Rattle.std.proofs.Common.{◌≡◌}
 use Rattle.mesh_input.specs.declared.outcome.Outcome.{Outcome}
 use Rattle.mesh_input.specs.declared.outcome.Outcome.TheVariants.{Done, Listed, Usage, Refused, ReadFault, WriteFault, NoMemory}
-use Rattle.mesh_input.specs.declared.outcome.Status.{Status}
 use Rattle.mesh_input.specs.declared.outcome.Status.TheVariants as status
 use Rattle.mesh_input.specs.Statuses.{status_of}
 

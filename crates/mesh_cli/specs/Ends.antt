@@ -1,11 +1,10 @@
 -- How a call ends, and what its depot has gained then.
 use Rattle.std.specs.Prelude.{◌≡◌, ℕ, ◌⊎◌, List, Option, Result, Ok, Err}
-use Rattle.input_file.specs.Texts.{Text}
 use Rattle.problem_set.specs.Settings.{Settings}
 use Rattle.mesh_outside.specs.declared.files.File.{File}
 use Rattle.mesh_outside.specs.declared.files.Gained.{Gained}
 use Rattle.mesh_outside.specs.Gained.{Gains, GainsCut}
-use Rattle.mesh_words.specs.Accepted.{Accepted as Said, words_of}
+use Rattle.mesh_words.specs.Accepted.{Accepted as Said}
 use Rattle.mesh_words.specs.declared.fault.WordsFault.{WordsFault}
 use Rattle.mesh_input.specs.declared.outcome.Outcome.{Outcome}
 use Rattle.mesh_input.specs.declared.outcome.Outcome.TheVariants.{Done, Listed, Usage, Refused, ReadFault, WriteFault, NoMemory}

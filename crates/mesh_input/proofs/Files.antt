@@ -17,7 +17,7 @@ use Rattle.mesh_input.specs.declared.fault.Refusal.{Refusal}
 use Rattle.mesh_input.specs.declared.fault.InputFault.{InputFault}
 use Rattle.mesh_input.specs.declared.fault.InputFault.TheVariants.{Refused, ReadFault, NoMemory}
 use Rattle.mesh_input.specs.Inputs.{Accepted, accepted, accepted_deck, or_deck_fault, overridden_by}
-use Rattle.mesh_input.specs.Answers.{Answers, AnswersFile, Gives, HasInput, seen_input}
+use Rattle.mesh_input.specs.Answers.{Answers, AnswersFile, Gives, seen_input}
 
 longer_means : (m n : ℕ) → nat_lt m n ≡ true → m < n
 longer_means m n h = grind (arith, nat_tests)

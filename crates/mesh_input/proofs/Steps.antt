@@ -1,8 +1,8 @@
 -- One step after another: the first that stops decides.
-use Rattle.std.proofs.Common.{◌≡◌, ℕ, ◌⊎◌, inl, inr, List, Result, Ok, Err, refl, sym, ◌∙◌, ap, subst}
+use Rattle.std.proofs.Common.{◌≡◌, ℕ, ◌⊎◌, inl, inr, List, Result, Ok, Err, sym, ◌∙◌, ap, subst}
 use Rattle.input_file.specs.Texts.{Text}
 use Rattle.input_file.specs.Blocks.{Blocks}
-use Rattle.input_file.specs.Decks.{and_then, deck}
+use Rattle.input_file.specs.Decks.{and_then}
 use Rattle.input_file.specs.declared.fault.DeckFault.{DeckFault}
 use Rattle.input_file.specs.declared.fault.DeckFault.TheVariants as deck_fault
 use Rattle.problem_set.specs.Settings.{Settings}
@@ -12,7 +12,7 @@ use Rattle.mesh_input.specs.declared.fault.Refusal.{Refusal}
 use Rattle.mesh_input.specs.declared.fault.InputFault.{InputFault}
 use Rattle.mesh_input.specs.declared.fault.InputFault.TheVariants.{Refused, ReadFault, NoMemory}
 use Rattle.mesh_input.specs.Stops.{stop_of_deck, stop_of_override, stop_of_problem}
-use Rattle.mesh_input.specs.Inputs.{Accepted, accepted, accepted_deck, deck_read, or_deck_fault, or_override_fault, or_problem_fault, overridden_by, problem_read}
+use Rattle.mesh_input.specs.Inputs.{accepted, accepted_deck, deck_read, or_deck_fault, or_override_fault, or_problem_fault, overridden_by, problem_read}
 use Rattle.mesh_input.specs.Answers.{Answers}
 
 -- a fault of the bytes stops the call as it should

@@ -1,6 +1,6 @@
 -- The input that bytes and overrides give, or the first fault: that of the bytes, then that of the first word that is
 -- no override, then that of the problem.
-use Rattle.std.specs.Prelude.{◌≡◌, ℕ, ◌+◌, List, [], ◌∷◌, Option, Some, None, Result, Ok, Err}
+use Rattle.std.specs.Prelude.{ℕ, ◌+◌, List, [], ◌∷◌, Result, Ok, Err}
 use Rattle.input_file.specs.Texts.{Text}
 use Rattle.input_file.specs.Blocks.{Blocks}
 use Rattle.input_file.specs.Decks.{and_then, deck}

@@ -6,7 +6,6 @@ use Rattle.problem_set.specs.declared.fault.ProblemFault.{ProblemFault}
 use Rattle.problem_set.specs.declared.fault.ProblemFault.TheVariants as problem_fault
 use Rattle.mesh_outside.specs.declared.fault.OutFault.{OutFault}
 use Rattle.mesh_outside.specs.declared.fault.OutFault.TheVariants as out_fault
-use Rattle.mesh_input.specs.declared.fault.Refusal.{Refusal}
 use Rattle.mesh_input.specs.declared.fault.Refusal.TheVariants.{Deck, Override, Problem}
 use Rattle.mesh_input.specs.declared.fault.InputFault.{InputFault}
 use Rattle.mesh_input.specs.declared.fault.InputFault.TheVariants.{Refused, ReadFault, NoMemory}

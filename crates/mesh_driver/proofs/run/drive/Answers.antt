@@ -2,7 +2,7 @@ use Rattle.std.proofs.Common.{◌≡◌, ◌+◌, ◌≤◌, ap, ◌∙◌, arit
 use Rattle.problem_set.specs.Settings.{Settings}
 use Rattle.dense_model.specs.RunFiles.{RunAt}
 use Rattle.mesh_outside.proofs.Exits.{always_on_err}
-use Rattle.mesh_driver.proofs.Cycles.{all_gained, closed_behind, gains_next, nothing_cut, started_closed, started_gains, started_stops, stops_at}
+use Rattle.mesh_driver.proofs.Cycles.{closed_behind, gains_next, nothing_cut, started_closed, started_gains, started_stops, stops_at}
 use Rattle.mesh_driver.proofs.run.drive.Goals as goal
 
 pub returns-in_err-run-clause-err : goal.returns-in_err-run-clause-err

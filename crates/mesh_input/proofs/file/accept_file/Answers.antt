@@ -1,6 +1,4 @@
-use Rattle.std.proofs.Common.{refl, ap, map, subst, List, ℕ}
-use Rattle.mesh_input.specs.Inputs.{accepted}
-use Rattle.mesh_input.specs.Answers.{Answers, seen_input}
+use Rattle.std.proofs.Common.{refl}
 use Rattle.mesh_input.proofs.Files.{answers_file}
 use Rattle.mesh_input.proofs.file.accept_file.Goals as goal
 
