@@ -1,6 +1,6 @@
--- A dump as its name and its text.
+-- A file of a run as its name and its bytes.
 use Rattle.std.specs.Prelude.{ℕ, List}
-use Rattle.dense_model.specs.declared.dump_file.DumpFile.{DumpFile}
+use Rattle.mesh_outside.specs.declared.files.File.{File}
 
-abbrev pub name_and_text : DumpFile → List ℕ × List ℕ
-name_and_text file = (file.name, file.text.items)
+abbrev pub name_and_bytes : File → List ℕ × List ℕ
+name_and_bytes file = (file.name, file.bytes)

@@ -7,13 +7,12 @@ ghost use Rattle.dense_model.specs.Flows.{flows_later, no_flow};
 ghost use Rattle.dense_model.specs.RunFiles.{dump_after, dumps_at, files_until, flow_after, is_dumped, leaves_after, total_after};
 
 use crate::dense_dump;
-use crate::dump_file::DumpFile;
 use crate::fault::DenseFault;
 use crate::field_row::FieldRow;
 use crate::flows::{BoundaryFlow, add_flows, clear_flows};
 use crate::of_problem::moving_at;
 use mesh_num::NoMemory;
-use package_fields::{Items, Name};
+use mesh_outside::{Bytes, File, Files, Name};
 use problem_set::Problem;
 use std::alloc::Global;
 use std::marker::Model;
@@ -41,7 +40,7 @@ impl<'a> Model for DenseRun<'a> {
 }
 
 impl<'a> DenseRun<'a> {
-    ghost use Rattle.dense_model.specs.FileList.{name_and_text};
+    ghost use Rattle.dense_model.specs.FileList.{name_and_bytes};
 
     /// The run before its first cycle: each cell has the amounts of the boxes that hold it.
     pub fn start(alloc: Global, problem: &'a Problem) -> Result<DenseRun<'a>, DenseFault>
@@ -103,12 +102,12 @@ impl<'a> DenseRun<'a> {
     }
 
     /// The files so far, in order: the dumps of the cycles that have one.
-    pub fn files(&self, prefix: &str) -> Result<Items<DumpFile>, NoMemory>
-        ensures { IfOk result (λ files. map name_and_text files ≡ files_until self.now.problem prefix.now self.now.cycle) }
+    pub fn files(&self, prefix: &str) -> Result<Files, NoMemory>
+        ensures { IfOk result (λ files. map name_and_bytes files ≡ files_until self.now.problem prefix.now self.now.cycle) }
     {
         let alloc = *self.rows.allocator();
         let mut run = restart(alloc, self.problem)?;
-        let mut files = Items::new(alloc);
+        let mut files = Files::new(alloc);
         for cycle in 0..self.cycle {
             run.push_dump(prefix, &mut files)?;
             let _ = run.cycle();
@@ -118,8 +117,8 @@ impl<'a> DenseRun<'a> {
     }
 
     /// Adds the dump after the cycles that were run, where there is one.
-    fn push_dump(&self, prefix: &str, files: &mut Items<DumpFile>) -> Result<(), NoMemory>
-        ensures { OnOk result (map name_and_text files.new ≡ map name_and_text files.old ++ dumps_at self.now.problem prefix.now self.now.cycle) }
+    fn push_dump(&self, prefix: &str, files: &mut Files) -> Result<(), NoMemory>
+        ensures { OnOk result (map name_and_bytes files.new ≡ map name_and_bytes files.old ++ dumps_at self.now.problem prefix.now self.now.cycle) }
     {
         if !is_dumped(self.problem, self.cycle) {
             return Ok(());
@@ -127,19 +126,18 @@ impl<'a> DenseRun<'a> {
         let alloc = *self.rows.allocator();
         let name = dense_dump::dump_file_name(alloc, prefix, self.cycle)?;
         let text = self.dump()?;
-        files.push(DumpFile {
+        files.push(File {
             name: Name::of(name),
-            text,
+            bytes: Bytes::of(text),
         })?;
         Ok(())
     }
 
-    /// How many leaves there are.
+    /// How many leaves there are: the root blocks, of which none is refined.
     pub fn leaves(&self) -> u32
         ensures { result ≡ leaves_after self.now.problem self.now.cycle }
     {
-        let _ = &self.rows;
-        1
+        self.problem.shape.root[0]
     }
 
     /// What all totals of all fields add up to.

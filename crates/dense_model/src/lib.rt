@@ -10,7 +10,6 @@
 
 mod dense_dump;
 mod dense_run;
-mod dump_file;
 mod fault;
 mod field_row;
 mod flows;
@@ -22,7 +21,6 @@ mod worked;
 
 pub use dense_dump::dump_file_name;
 pub use dense_run::DenseRun;
-pub use dump_file::DumpFile;
 pub use fault::DenseFault;
 pub use flows::BoundaryFlow;
 pub use laws::{conservation_law, look_law, next_tree_law, pay_law};
