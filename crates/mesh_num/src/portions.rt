@@ -8,8 +8,10 @@ pub fn portion(q: u64, c: u64, d: u64) -> u64
     ensures value { result ≡ portion q c d }
     ensures within { result ≤ q }
 {
-    // A quotient of 128 bits costs about ten times these two of 64 bits.
-    if d <= u64::from(u32::MAX) {
+    // One quotient of 64 bits costs less than two, and one of 128 bits about ten times these two.
+    if q <= u64::from(u32::MAX) && c <= u64::from(u32::MAX) {
+        q * c / d
+    } else if d <= u64::from(u32::MAX) {
         q / d * c + q % d * c / d
     } else {
         (u128::from(q) * u128::from(c) / u128::from(d)) as u64

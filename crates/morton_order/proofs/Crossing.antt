@@ -1,15 +1,15 @@
 -- Crossing a side, on two levels and back.
-use Rattle.std.proofs.Common.{◌≡◌, ◌⊎◌, ◌==◌, inl, inr, ℕ, zero, suc, ◌+◌, ◌-◌, ◌*◌, ◌/◌, ◌%◌, ◌^◌, ◌<◌, ◌≤◌, Bool, true, false, cond, not, nat_lt, Option, Some, None, refl, arith, ap, subst, sym, ◌∙◌}
+use Rattle.std.proofs.Common.{◌≡◌, ℕ, zero, suc, ◌+◌, ◌-◌, ◌*◌, ◌/◌, ◌%◌, ◌^◌, ◌<◌, ◌≤◌, Bool, true, false, cond, not, nat_lt, Option, Some, None, refl, arith, ap, subst, sym, ◌∙◌}
 use Rattle.std.specs.Option.{option_map}
 use Rattle.std.proofs.Math.Nat.{pow-suc}
 use Rattle.std.proofs.lemmas.Bool.{lt-ltb}
 use Rattle.std.proofs.lemmas.Bool.Decides.{nat_tests}
 use Rattle.morton_order.specs.declared.space.Loc.{Loc}
 use Rattle.morton_order.specs.declared.space.Shape.{Shape}
-use Rattle.morton_order.specs.Space.{IsIn, axis_of, blocks_along, child, child_number, factor, parent, root_along, wraps}
+use Rattle.morton_order.specs.Space.{IsIn, axis_of, blocks_along, factor, parent, root_along, wraps}
 use Rattle.morton_order.specs.Neighbours.{AreNeighbours, across, beside, is_near, moved, step}
 use Rattle.morton_order.proofs.Lattice.{one_pow}
-use Rattle.morton_order.proofs.Touching.{Touches, near_self, same_as, step_down, step_up}
+use Rattle.morton_order.proofs.Touching.{Touches, near_self, step_down, step_up}
 
 -- a step out of a pair of halves is a step of the pairs
 halves_up : (n : ℕ) (w : Bool) (x : ℕ) → x < n * 2 → x % 2 ≡ 1 → step (n * 2) w true x ≡ option_map (λ y. 2 * y) (step n w true (x / 2))

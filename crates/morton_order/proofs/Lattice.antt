@@ -1,7 +1,7 @@
 -- Facts on one axis of a lattice.
 use Rattle.std.proofs.Common.{◌≡◌, ℕ, zero, suc, ◌+◌, ◌*◌, ◌/◌, ◌^◌, ◌<◌, ◌≤◌, Bool, true, false, cond, refl, arith, ap, subst, sym, ◌∙◌, add-one, lit<, lit≤, nat_lt}
 use Rattle.morton_order.specs.declared.space.Shape.{Shape}
-use Rattle.morton_order.specs.Space.{IsShape, IsRootCount, blocks_along, root_along, factor}
+use Rattle.morton_order.specs.Space.{IsShape, IsRootCount, blocks_along, root_along}
 use Rattle.std.proofs.lemmas.Nat.{mul-le}
 use Rattle.std.proofs.Math.Nat.{pow-suc, pow-le-pow_right, mul-le-mul_left}
 

@@ -1,5 +1,5 @@
 -- The Morton key, by which leaves are ordered.
-use Rattle.std.specs.Prelude.{◌≡◌, ℕ, zero, suc, ◌+◌, ◌-◌, ◌*◌, ◌/◌, ◌%◌, ◌^◌}
+use Rattle.std.specs.Prelude.{ℕ, zero, suc, ◌+◌, ◌-◌, ◌*◌, ◌/◌, ◌%◌, ◌^◌}
 use Rattle.morton_order.specs.declared.space.Loc.{Loc}
 
 -- the lowest n bits of three numbers by turns, the lowest bit of the first at the bottom

@@ -1,4 +1,4 @@
-use Rattle.std.proofs.Common.{◌≡◌, ℕ, ◌^◌, ◌<◌, ◌≤◌, ◌*◌, ◌+◌, ◌-◌, ◌/◌, subst, sym, arith, refl, ap, ◌∙◌}
+use Rattle.std.proofs.Common.{◌≡◌, ◌^◌, ◌<◌, ◌≤◌, ◌-◌, ◌/◌, subst, sym, arith, refl}
 use Rattle.morton_order.specs.Key.{key, interleaved}
 use Rattle.morton_order.proofs.KeyBits.{digit, key_step, interleaved_below, power_below}
 use Rattle.morton_order.proofs.key.key_of.Goals as goal

@@ -1,4 +1,4 @@
-use Rattle.std.proofs.Common.{◌≡◌, ℕ, ◌^◌, ◌<◌, ◌*◌, ◌-◌, subst, sym, arith, Fits, w32}
+use Rattle.std.proofs.Common.{◌^◌, ◌<◌, ◌*◌, subst, sym, arith, Fits, w32}
 use Rattle.morton_order.proofs.KeyBits.{finest_below}
 use Rattle.morton_order.proofs.key.on_finest.Goals as goal
 

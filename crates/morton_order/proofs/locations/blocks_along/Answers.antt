@@ -1,4 +1,4 @@
-use Rattle.std.proofs.Common.{◌≡◌, ℕ, ◌^◌, ◌<◌, ◌≤◌, ◌*◌, nat_lt, subst, sym, arith, ap, ◌∙◌}
+use Rattle.std.proofs.Common.{◌≡◌, ◌^◌, ◌<◌, ◌≤◌, ◌*◌, nat_lt, subst, sym, arith, ap, ◌∙◌}
 use Rattle.morton_order.specs.Space.{factor, root_along}
 use Rattle.morton_order.proofs.Lattice.{factor_power, few_places, root_count}
 use Rattle.morton_order.proofs.locations.blocks_along.Goals as goal

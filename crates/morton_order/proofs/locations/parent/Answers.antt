@@ -1,6 +1,5 @@
-use Rattle.std.proofs.Common.{◌≡◌, ℕ, ◌/◌, nat_lt}
-use Rattle.morton_order.specs.declared.space.Shape.{Shape}
-use Rattle.morton_order.specs.Space.{IsShape, IsIn, factor, root_along}
+use Rattle.std.proofs.Common.{◌≡◌, ◌/◌, nat_lt}
+use Rattle.morton_order.specs.Space.{factor, root_along}
 use Rattle.morton_order.proofs.Lattice.{halved}
 use Rattle.morton_order.proofs.locations.parent.Goals as goal
 
