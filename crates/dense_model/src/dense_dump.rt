@@ -1,13 +1,14 @@
-//! The text of a dump of one block along one axis, and its name.
+//! The text of a dump of one block along one axis, its name, and when there is one.
 
 ghost use Rattle.std.specs.Prelude.{◌≡◌, ℕ, ◌+◌, ◌==◌, ◌<◌, ◌≤◌, ◌^◌, ◌++◌, true, cond, [], IfOk, OnOk, length, map, codes, count_by, slice_index};
 ghost use Rattle.std.specs.String.{string_bytes};
 ghost use Rattle.std.specs.List.{list_all, flat_map, join_with_byte};
 ghost use Rattle.std.specs.Fmt.{decimal};
 ghost use Rattle.package_fields.specs.Fields.{labels};
+ghost use Rattle.problem_set.specs.SettingsOf.{settings_of};
 ghost use Rattle.dense_model.specs.RowRun.{totals_in};
 ghost use Rattle.dense_model.specs.Texts.{is_zero, line};
-ghost use Rattle.dense_model.specs.RunFiles.{dump_file_name};
+ghost use Rattle.dense_model.specs.RunFiles.{dump_file_name, is_dumped};
 ghost use Rattle.dense_model.specs.RowTexts.{first_lines, heading_lines, field_lines, fields_lines, block_lines};
 
 use crate::field_row::FieldRow;
@@ -22,6 +23,14 @@ pub fn dump_file_name(alloc: Global, prefix: &str, cycle: u32) -> Result<String,
 {
     let name = format!(in alloc; "{prefix}.{cycle:06}.dump")?;
     Ok(name)
+}
+
+/// Whether a dump follows a cycle: each whose number is a multiple of the problem's `dump_every`, the
+/// opening included, and the last one.
+pub fn is_dumped(problem: &Problem, cycle: u32) -> bool
+    ensures { result ≡ is_dumped (settings_of problem.now) cycle }
+{
+    cycle % problem.dump_every == 0 || cycle == problem.nlim
 }
 
 /// The text of a dump: the heading, the block's lines, and the end.

@@ -4,7 +4,7 @@ ghost use Rattle.dense_model.specs.OfProblem.{is_built, rules_of};
 ghost use Rattle.dense_model.specs.Rows.{IsReady, row_next, rows_later, row_sum, sum_all};
 ghost use Rattle.dense_model.specs.RowRun.{states_of, opening_rows, empty_states, totals_in};
 ghost use Rattle.dense_model.specs.Flows.{flows_later, no_flow};
-ghost use Rattle.dense_model.specs.RunFiles.{dump_after, dumps_at, files_until, flow_after, is_dumped, leaves_after, total_after};
+ghost use Rattle.dense_model.specs.RunFiles.{dump_after, dumps_at, files_until, flow_after, leaves_after, total_after};
 
 use crate::dense_dump;
 use crate::fault::DenseFault;
@@ -120,7 +120,7 @@ impl<'a> DenseRun<'a> {
     fn push_dump(&self, prefix: &str, files: &mut Files) -> Result<(), NoMemory>
         ensures { OnOk result (map name_and_bytes files.new ≡ map name_and_bytes files.old ++ dumps_at self.now.problem prefix.now self.now.cycle) }
     {
-        if !is_dumped(self.problem, self.cycle) {
+        if !dense_dump::is_dumped(self.problem, self.cycle) {
             return Ok(());
         }
         let alloc = *self.rows.allocator();
@@ -158,13 +158,6 @@ fn restart<'a>(alloc: Global, problem: &'a Problem) -> Result<DenseRun<'a>, NoMe
         Ok(run) => Ok(run),
         Err(DenseFault::NoMemory) => Err(NoMemory),
     }
-}
-
-/// Whether a dump follows a cycle.
-fn is_dumped(problem: &Problem, cycle: u32) -> bool
-    ensures { result ≡ is_dumped (settings_of problem.now) cycle }
-{
-    cycle % problem.dump_every == 0 || cycle == problem.nlim
 }
 
 /// The rows at the start.

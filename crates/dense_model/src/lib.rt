@@ -19,7 +19,7 @@ mod row_stage;
 mod run_laws;
 mod worked;
 
-pub use dense_dump::dump_file_name;
+pub use dense_dump::{dump_file_name, is_dumped};
 pub use dense_run::DenseRun;
 pub use fault::DenseFault;
 pub use flows::BoundaryFlow;

@@ -2,13 +2,12 @@ ghost use Rattle.std.specs.Prelude.{◌≡◌, ℕ, ◌+◌, ◌<◌, ◌≤◌,
 ghost use Rattle.std.specs.Option.{ForSome};
 ghost use Rattle.problem_set.specs.SettingsOf.{settings_of};
 ghost use Rattle.dense_model.specs.OfProblem.{is_built};
-ghost use Rattle.dense_model.specs.RunFiles.{is_dumped};
 ghost use Rattle.mesh_outside.specs.Gained.{IsClosed, Gains, GainsCut};
 ghost use Rattle.mesh_driver.specs.Fault.{HasWriteCause};
 ghost use Rattle.mesh_driver.specs.Files.{dump_of, end_of, files_at, files_of};
 
 use crate::DriveFault;
-use dense_model::{DenseRun, dump_file_name};
+use dense_model::{DenseRun, dump_file_name, is_dumped};
 use mesh_outside::{Depot, write_file};
 use problem_set::Problem;
 use std::alloc::Global;
@@ -77,13 +76,6 @@ fn advance<'a, D: Depot>(
     } else {
         Ok(())
     }
-}
-
-// Whether a dump follows a cycle.
-fn is_dumped(problem: &Problem, cycle: u32) -> bool
-    ensures { result ≡ is_dumped (settings_of problem.now) cycle }
-{
-    cycle % problem.dump_every == 0 || cycle == problem.nlim
 }
 
 // Writes the dump of the cycles that were run.
