@@ -6,5 +6,6 @@ pub mod Loops
 pub mod Spaces
 pub mod Prefix
 pub mod Owned
+pub mod Kept
 pub mod RateLemmas
 pub mod EachSome

@@ -4,6 +4,7 @@ pub mod Numbers
 pub mod Rows
 pub mod Mesh
 pub mod Grid
+pub mod Kept
 pub mod Stepping
 pub mod BlockKinds
 pub mod Sound

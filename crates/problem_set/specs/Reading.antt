@@ -3,10 +3,6 @@ use Rattle.std.specs.Prelude.{◌≡◌, ◌⊎◌, Bool, true, false, List, [],
 use Rattle.problem_set.specs.declared.fault.ProblemFault.{ProblemFault}
 use Rattle.problem_set.specs.declared.fault.ProblemFault.TheVariants.{NoMemory}
 
--- what is read, or the first fault
-abbrev pub Reading : Type 0 → Type 0
-Reading A = Result A ProblemFault
-
 -- one reading after another: the first fault stops both
 infixl 10 ◌>>=◌
 abbrev pub ◌>>=◌ : {A B : Type 0} → Result A ProblemFault → (A → Result B ProblemFault) → Result B ProblemFault

@@ -4,7 +4,7 @@ ghost use Rattle.std.specs.Prelude.{◌≡◌, ◌≤◌, IfOk, All, length};
 ghost use Rattle.problem_set.specs.Reading.{Gives};
 ghost use Rattle.problem_set.specs.Contents.{entries, contents};
 ghost use Rattle.problem_set.specs.Sound.{IsSize};
-ghost use Rattle.problem_set.specs.SoundEntries.{IsMoves, IsStatic, IsBox, IsReaction, IsCriterion, AreEntries};
+ghost use Rattle.problem_set.specs.SoundEntries.{IsMoves, AreEntries};
 
 use crate::block_kinds::{BlockNames, find_blocks};
 use crate::entries::{Criterion, Reaction, StartBox, StaticAt};

@@ -1,8 +1,8 @@
 //! The blocks that declare fields.
 
-ghost use Rattle.std.specs.Prelude.{◌≡◌, ◌≤◌, pos, IfOk, All, Ok, length, unsigned_abs};
+ghost use Rattle.std.specs.Prelude.{◌≡◌, ◌≤◌, IfOk, All, Ok, length, unsigned_abs};
 ghost use Rattle.std.specs.Option.{option_copied};
-ghost use Rattle.problem_set.specs.Reading.{Answers, Gives};
+ghost use Rattle.problem_set.specs.Reading.{Gives};
 ghost use Rattle.problem_set.specs.FieldBlocks.{behind_field, field_name, default_flags, owner, flags, ids, flags_and_ids, speed, spread, entry_amount};
 ghost use Rattle.problem_set.specs.FieldBlocks.{speeds, entry_amounts, moves, field_block};
 ghost use Rattle.problem_set.specs.SoundEntries.{IsMoves, IsSlow, greatest_total};
@@ -10,6 +10,7 @@ ghost use Rattle.problem_set.specs.SoundEntries.{IsMoves, IsSlow, greatest_total
 use crate::entries::Moves;
 use crate::fault::ProblemFault;
 use crate::field_values::{flags_of, ids_of};
+use crate::mesh_part::GREATEST_TOTAL;
 use crate::numbers::is_name;
 use crate::reader::BlockReader;
 use input_file::Deck;
@@ -213,5 +214,5 @@ fn read_entry_amount(block: &BlockReader, key: &str) -> Result<u64, ProblemFault
     ensures value { Gives result (entry_amount block.now.deck.now block.now.block.now key.now) }
     ensures most { IfOk result (λ amount. amount ≤ greatest_total) }
 {
-    block.number(key, 0, 4_611_686_018_427_387_903, Some(0))
+    block.number(key, 0, GREATEST_TOTAL, Some(0))
 }

@@ -1,6 +1,6 @@
 //! The lists that keys of a field block are set to: flags and ids.
 
-ghost use Rattle.std.specs.Prelude.{◌≡◌, ◌≤◌, ◌<◌, [], IfOk, IfNone, IfSome, Some, length, map, option_map, slice_get};
+ghost use Rattle.std.specs.Prelude.{◌≡◌, ◌<◌, [], IfOk, IfNone, IfSome, Some, length, map, option_map, slice_get};
 ghost use Rattle.problem_set.specs.Words.{flag_named};
 ghost use Rattle.problem_set.specs.FieldValues.{items_of, without_leading_spaces, without_trailing_spaces, each_some, flag_of, flags_of, id_of, rising_after, ids_of};
 

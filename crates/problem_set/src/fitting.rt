@@ -1,10 +1,10 @@
 //! The opening sum of all totals, and all that may come in during the run.
 
 ghost use Rattle.std.specs.Prelude.{◌≡◌, ◌≤◌, ◌<◌, ◌*◌, ◌^◌, Some, length, slice_get, slice_index, All, sum_by};
-ghost use Rattle.std.specs.List.{zip, slice_index_or, range_with_len};
-ghost use Rattle.problem_set.specs.Rates.{face_cells, is_inflow, face_inflow, field_inflow, stage_inflow, span, box_total, bound};
+ghost use Rattle.std.specs.List.{slice_index_or, range_with_len};
+ghost use Rattle.problem_set.specs.Rates.{face_cells, is_inflow, face_inflow, field_inflow, stage_inflow, span, box_total};
 ghost use Rattle.problem_set.specs.Sound.{IsSize, IsFaces};
-ghost use Rattle.problem_set.specs.SoundEntries.{IsMoves, IsPart, IsBox};
+ghost use Rattle.problem_set.specs.SoundEntries.{IsMoves, IsBox};
 
 use crate::entries::{Moves, StartBox};
 use crate::rates::{field_at, moves_at};

@@ -1,6 +1,6 @@
 //! The keys that the blocks of several kinds share: a part of the mesh, a field's label, an amount.
 
-ghost use Rattle.std.specs.Prelude.{◌≡◌, ◌≢◌, ◌≤◌, ◌<◌, IfOk, length};
+ghost use Rattle.std.specs.Prelude.{◌≢◌, ◌≤◌, ◌<◌, IfOk, length};
 ghost use Rattle.problem_set.specs.Reading.{Gives};
 ghost use Rattle.problem_set.specs.Entries.{span_at, part, label, other_label, amount, lower_amount};
 ghost use Rattle.problem_set.specs.Sound.{IsSize};
@@ -11,7 +11,7 @@ use crate::reader::BlockReader;
 use package_fields::Registry;
 
 /// The greatest total, and the greatest amount that a deck may name.
-const GREATEST_TOTAL: u64 = 4_611_686_018_427_387_903;
+pub const GREATEST_TOTAL: u64 = 4_611_686_018_427_387_903;
 
 /// A part of the mesh, in root cells with both ends included.
 #[derive(Clone, Copy)]

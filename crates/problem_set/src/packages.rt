@@ -4,7 +4,8 @@ ghost use Rattle.std.specs.Prelude.{◌≡◌, ◌++◌, [], ◌∷◌, map, len
 ghost use Rattle.std.specs.List.{flat_map};
 ghost use Rattle.problem_set.specs.declared.fault.ProblemFault.TheVariants.{NoMemory as no_memory};
 ghost use Rattle.problem_set.specs.Reading.{Answers, Gives, each};
-ghost use Rattle.problem_set.specs.FieldBlocks.{field_block, pool_field, lone_field, fields_of};
+ghost use Rattle.problem_set.specs.FieldBlocks.{field_block, pool_field, lone_field};
+ghost use Rattle.problem_set.specs.Kept.{kept_fields, kept_flags};
 ghost use Rattle.problem_set.specs.Packages.{blocks_of, package_of, moves_of, package_moves, with_added, with_owner, owner_moves, registered, fields};
 ghost use Rattle.problem_set.specs.SoundEntries.{IsMoves};
 
@@ -14,7 +15,7 @@ use crate::fault::ProblemFault;
 use crate::field_blocks::{FieldBlock, read_field_block};
 use input_file::Deck;
 use package_fields::{
-    Field, FieldFault, Fields, Flag, Flags, Items, Name, Package, Registry, has_flag,
+    Field, FieldFault, Fields, Flag, Flags, Items, Name, Package, Registry, has_flag, is_permitted,
 };
 use sparse_pool::label_of;
 use std::alloc::Global;
@@ -40,7 +41,7 @@ fn push_block_if(
     block: &FieldBlock,
     owner: &Name,
 ) -> Result<(), ProblemFault>
-    ensures fields { OnOk result (list.new.fields ≡ list.old.fields ++ flat_map fields_of (blocks_of (block.now ∷ []) owner.now)) }
+    ensures fields { OnOk result (list.new.fields ≡ list.old.fields ++ flat_map kept_fields (blocks_of (block.now ∷ []) owner.now)) }
     ensures moves { OnOk result (list.new.moves ≡ list.old.moves ++ flat_map moves_of (blocks_of (block.now ∷ []) owner.now)) }
     ensures fault { IfErr result (λ fault. fault ≡ no_memory) }
 {
@@ -52,27 +53,47 @@ fn push_block_if(
 
 /// Adds the fields of a block.
 fn push_block(alloc: Global, list: &mut FieldList, block: &FieldBlock) -> Result<(), ProblemFault>
-    ensures fields { OnOk result (list.new.fields ≡ list.old.fields ++ fields_of block.now) }
+    ensures fields { OnOk result (list.new.fields ≡ list.old.fields ++ kept_fields block.now) }
     ensures moves { OnOk result (list.new.moves ≡ list.old.moves ++ moves_of block.now) }
     ensures fault { IfErr result (λ fault. fault ≡ no_memory) }
 {
+    let flags = kept_flags(alloc, &block.flags)?;
     if has_flag(block.flags.as_slice(), Flag::Sparse) {
-        push_pool(alloc, list, block)
+        push_pool(alloc, list, block, &flags)
     } else {
-        let field = lone_field(alloc, &block.name, &block.flags)?;
+        let field = lone_field(alloc, &block.name, &flags)?;
         push_field(list, field, block.moves)
     }
 }
 
-/// Adds the fields of a pool.
-fn push_pool(alloc: Global, list: &mut FieldList, block: &FieldBlock) -> Result<(), ProblemFault>
-    ensures fields { OnOk result (list.new.fields ≡ list.old.fields ++ map (pool_field block.now.name block.now.flags) block.now.ids) }
+/// The flags that the fields of a block are added with. Flags that are not permitted together are
+/// refused whatever they are, so that they are not kept: a list of them may be as long as the deck,
+/// and a block may have as many fields.
+fn kept_flags(alloc: Global, flags: &Flags) -> Result<Flags, ProblemFault>
+    ensures value { IfOk result (λ kept. kept ≡ kept_flags flags.now) }
+    ensures fault { IfErr result (λ fault. fault ≡ no_memory) }
+{
+    if is_permitted(flags.as_slice()) {
+        Ok(Items::from_slice(alloc, flags.as_slice())?)
+    } else {
+        Ok(Items::new(alloc))
+    }
+}
+
+/// Adds the fields of a pool with these flags.
+fn push_pool(
+    alloc: Global,
+    list: &mut FieldList,
+    block: &FieldBlock,
+    flags: &Flags,
+) -> Result<(), ProblemFault>
+    ensures fields { OnOk result (list.new.fields ≡ list.old.fields ++ map (pool_field block.now.name flags.now) block.now.ids) }
     ensures moves { OnOk result (list.new.moves ≡ list.old.moves ++ map (λ id. block.now.moves) block.now.ids) }
     ensures fault { IfErr result (λ fault. fault ≡ no_memory) }
 {
     let ids = block.ids.as_slice();
     for id in ids {
-        let field = pool_field(alloc, &block.name, &block.flags, *id)?;
+        let field = pool_field(alloc, &block.name, flags, *id)?;
         push_field(list, field, block.moves)?;
     }
     Ok(())
@@ -126,7 +147,7 @@ fn lone_field(alloc: Global, name: &Name, flags: &Flags) -> Result<Field, Proble
 
 /// The fields of a package, in deck order.
 fn gather(alloc: Global, blocks: &[FieldBlock], owner: &Name) -> Result<FieldList, ProblemFault>
-    ensures fields { IfOk result (λ m. m.fields ≡ flat_map fields_of (blocks_of blocks.now owner.now)) }
+    ensures fields { IfOk result (λ m. m.fields ≡ flat_map kept_fields (blocks_of blocks.now owner.now)) }
     ensures moves { IfOk result (λ m. m.moves ≡ package_moves blocks.now owner.now) }
     ensures fault { IfErr result (λ fault. fault ≡ no_memory) }
 {

@@ -1,4 +1,4 @@
-ghost use Rattle.std.specs.Prelude.{◌≡◌, ◌≤◌, ◌<◌, length, slice_get, map, Some};
+ghost use Rattle.std.specs.Prelude.{◌≡◌, ◌≤◌, ◌<◌, length, slice_get, Some};
 ghost use Rattle.std.proofs.Props.{props};
 ghost use Rattle.problem_set.specs.Sound.{IsSize, IsRefining, IsFaces, IsGrid, IsStepping};
 ghost use Rattle.problem_set.specs.SoundEntries.{AreFields, AreEntries, HaveFittingRates, HasBound};
@@ -12,7 +12,7 @@ use package_fields::{Flag, Items, Registry};
 /// What a run is of: the mesh, the fields, and how they are advanced.
 ///
 /// Lists by axis are in the order x1, x2, x3, those by face in the order of the low and the high face
-/// of x1, of x2 and of x3. Fields are named by their numbers in the registry.
+/// of x1 and of x2. Fields are named by their numbers in the registry.
 #[derive(Drop)]
 pub struct Problem {
     /// The lattice of root blocks.
@@ -21,6 +21,7 @@ pub struct Problem {
     pub size: [u32; 3],
     /// The cells of a block along each axis.
     pub cells: [u32; 3],
+    /// Whether the mesh is refined, and when.
     pub mode: Mode,
     /// How many levels there are, which is 1 where nothing is refined.
     pub levels: u32,
@@ -28,10 +29,13 @@ pub struct Problem {
     pub derefine_count: u32,
     /// The leaves of a partition, or None where all leaves are in one.
     pub pack_size: Option<u32>,
+    /// What each face of the domain does.
     pub faces: Faces,
     /// The cycles of the run.
     pub nlim: u32,
+    /// A total above this, which is 0, has a sparse field stored on a block.
     pub alloc_threshold: u64,
+    /// A sparse field with no total above this, which is 0, is idle on a block.
     pub dealloc_threshold: u64,
     /// After how many idle checks in a row a sparse field is freed.
     pub dealloc_count: u32,
@@ -43,12 +47,17 @@ pub struct Problem {
     pub refine_every: u32,
     /// A dump follows each cycle whose number is a multiple of this.
     pub dump_every: u32,
+    /// All fields, by number.
     pub fields: Registry,
     /// How each field moves, by its number.
     pub moves: Items<Moves>,
+    /// The parts of the mesh that are refined from the start, in deck order.
     pub statics: Items<StaticAt>,
+    /// What the cells hold at the start, in deck order.
     pub boxes: Items<StartBox>,
+    /// The reactions in the order in which they are applied.
     pub reactions: Items<Reaction>,
+    /// What the leaves are measured by where the mesh is adaptive, in deck order.
     pub criteria: Items<Criterion>,
     pub ghost size_sound: { IsSize size },
     pub ghost refining_sound: { IsRefining (record { mode = mode; levels = levels; derefine_count = derefine_count; pack_size = pack_size }) },

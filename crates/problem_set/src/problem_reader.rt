@@ -1,10 +1,10 @@
 //! The problem that a deck gives.
 
-ghost use Rattle.std.specs.Prelude.{◌≡◌, ◌≤◌, ◌-◌, ◌*◌, ◌^◌, OnOk, IfOk, length};
+ghost use Rattle.std.specs.Prelude.{◌≡◌, ◌≤◌, ◌-◌, ◌*◌, OnOk};
 ghost use Rattle.std.specs.List.{zip};
 ghost use Rattle.problem_set.specs.Reading.{Answers, Gives};
 ghost use Rattle.problem_set.specs.Fitting.{rates_fit};
-ghost use Rattle.problem_set.specs.SoundEntries.{HaveFittingRates, HasBound, greatest_total};
+ghost use Rattle.problem_set.specs.SoundEntries.{HaveFittingRates, greatest_total};
 ghost use Rattle.problem_set.specs.Problems.{bound_of, fitting, problem};
 ghost use Rattle.problem_set.specs.SettingsOf.{parts_settings, settings_of};
 
@@ -122,6 +122,7 @@ fn problem_of(parts: Parts) -> Problem
         reactions,
         criteria,
     } = entries;
+    // Counting tells the facts of a registry: there are at most 256 fields.
     let _count = fields.count();
     Problem {
         shape,

@@ -1,6 +1,6 @@
 //! The rates of a field, and what they add up to.
 
-ghost use Rattle.std.specs.Prelude.{◌≡◌, ◌≤◌, ◌<◌, ◌*◌, ◌⊎◌, Some, OnOk, IfErr, length, slice_get, All, unsigned_abs};
+ghost use Rattle.std.specs.Prelude.{◌≡◌, ◌≤◌, ◌<◌, ◌⊎◌, Some, OnOk, IfErr, length, slice_get, All, unsigned_abs};
 ghost use Rattle.std.specs.List.{zip};
 ghost use Rattle.mesh_num.specs.Rate.{rate as rate_of};
 ghost use Rattle.problem_set.specs.Reading.{Gives};
@@ -61,7 +61,7 @@ impl Moves {
 }
 
 /// The rates of a field along an axis at a level; a field without fluxes has none.
-pub fn field_rates(field: &Field, moves: &Moves, axis: u32, level: u32) -> Rates
+fn field_rates(field: &Field, moves: &Moves, axis: u32, level: u32) -> Rates
     requires sound { IsMoves moves.now }
     requires axis { axis < 3 }
     requires level { level ≤ 10 }
