@@ -24,6 +24,7 @@ abbrev pub outside_by : FaceKind → ℕ → ℕ
 outside_by inflow entering = entering
 outside_by _ entering = 0
 
+-- a field's total in a cell beyond a face of the domain: 9 at level 0 and 4 at level 1 where 9 enter a row, 0 at all but inflow faces
 abbrev pub outside : Rules → ℕ → ℕ → ℕ → Bool → ℕ → ℕ
 outside rules dims f axis high level = outside_by (kind_at rules axis high) (entering_at dims (field_at rules f) axis high level)
 

@@ -9,9 +9,11 @@ use Rattle.dense_model.specs.declared.row_stage.Moving.{Moving}
 use Rattle.dense_model.specs.Sums.{sum_to, table}
 use Rattle.dense_model.specs.Rows.{RowState, high_face, low_face, rows_later}
 
+-- nothing came in and nothing went out, as at ends that are joined
 abbrev pub no_flow : BoundaryFlow
 no_flow = record { inflow = 0; outflow = 0 }
 
+-- two flows together, of which neither lessens the other: 5 in and 2 out with 1 in and 4 out are 6 in and 6 out
 abbrev pub both_flows : BoundaryFlow → BoundaryFlow → BoundaryFlow
 both_flows a b = record { inflow = a.inflow + b.inflow; outflow = a.outflow + b.outflow }
 

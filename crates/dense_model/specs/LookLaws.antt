@@ -30,5 +30,6 @@ pub record LooksRight (m : Mesh) (f : ℕ) (c : Loc) : Type 0 where
   pub one_coarser : 1 ≤ c.level → OnLeaf m (parent m.shape.dims c) →
       look m f c ≡ share (stored m f (parent m.shape.dims c)) (parts m.shape.dims) (child_number m.shape.dims c)
 
+-- the look is right on every mesh, for each field and in each cell, be the leaf there of the same level, one finer or one coarser
 abbrev pub LookLaw : Type 0
 LookLaw = (m : Mesh) (f : ℕ) (c : Loc) → IsMesh m → LooksRight m f c

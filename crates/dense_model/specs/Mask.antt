@@ -20,9 +20,11 @@ pub record Slot : Type 0 where
 abbrev pub Mask : Type 0
 Mask = List (List Slot)
 
+-- the slot of a field that a block goes without
 abbrev pub absent : Slot
 absent = record { present = false; idle = 0 }
 
+-- the slot of a field on a leaf, by the number of the leaf; a field of which the mask says nothing is not kept
 abbrev pub slot_at : Mask → ℕ → ℕ → Slot
 slot_at mask leaf f = slice_index_or (slice_index_or mask leaf []) f absent
 

@@ -39,13 +39,16 @@ field_of p = record {
   entering = p.1.entry;
 }
 
+-- a problem's reaction as a rule: which field is used, which one is made of it, and what portion
 abbrev pub reaction_of : Reaction → ReactionRules
 reaction_of r = record { reactant = r.from; product = r.to; num = r.num; den = r.den }
 
+-- how a problem's criterion measures a block: by its greatest weight, or by the greatest difference of neighbouring ones
 abbrev pub measure_of : Method → Measure
 measure_of Peak = peak
 measure_of Jump = jump
 
+-- a problem's criterion as a rule: which field it measures, when a leaf wishes to refine or to derefine, and up to which level
 abbrev pub criterion_of : Criterion → CriterionRules
 criterion_of c = record { field = c.field; measured_by = measure_of c.method; refine_above = c.refine_tol; derefine_below = c.derefine_tol; finest_level = c.max_level }
 
@@ -72,9 +75,11 @@ rules_of p = record {
   leaf_limit = 65536;
 }
 
+-- the root cells that a problem refines from the start, and to which level
 abbrev pub static_of : StaticAt → StaticBox
 static_of s = record { level = s.level; lo = s.lo; hi = s.hi }
 
+-- the root cells that a problem fills at the start, each of them with the amount: three root cells with 5 hold 15 in all
 abbrev pub box_of : ProblemBox → StartBox
 box_of b = record { field = b.field; lo = b.lo; hi = b.hi; amount = b.amount }
 

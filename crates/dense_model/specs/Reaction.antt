@@ -18,6 +18,7 @@ pub record Reacting : Type 0 where
 abbrev pub added : List ℕ → ℕ → ℕ → List ℕ
 added xs i n = slice_set xs i (slice_index xs i + n)
 
+-- the totals of a cell once some of one field is used: where 2 of 5 are taken, 3 remain
 abbrev pub taken : List ℕ → ℕ → ℕ → List ℕ
 taken xs i n = slice_set xs i (slice_index xs i - n)
 
@@ -25,6 +26,7 @@ taken xs i n = slice_set xs i (slice_index xs i - n)
 abbrev pub moved_by : ReactionRules → List ℕ → ℕ
 moved_by r totals = portion (slice_index totals r.reactant) r.num r.den
 
+-- a cell after one more reaction, which finds the totals as the reactions before it left them
 abbrev pub after_reaction : Reacting → ReactionRules → Reacting
 after_reaction cell r =
     let moved = moved_by r cell.totals in
@@ -54,5 +56,6 @@ react rules m = filled m (length rules.fields) (λ f c. slice_index (react_cell 
 abbrev pub made_of : Rules → Mesh → ℕ → ℕ
 made_of rules m f = sum_cells m (λ c. slice_index (react_cell rules (cell_totals rules m c)).made f)
 
+-- what of a field the reactions of a cycle use; what they make of it does not lessen this: 3 made and 5 used are 5 used, not 2
 abbrev pub used_of : Rules → Mesh → ℕ → ℕ
 used_of rules m f = sum_cells m (λ c. slice_index (react_cell rules (cell_totals rules m c)).used f)

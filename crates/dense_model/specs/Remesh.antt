@@ -16,18 +16,21 @@ use Rattle.dense_model.specs.Tags.{Tag, split, keep, merge}
 abbrev pub tag_at : Mesh → List Tag → Loc → Tag
 tag_at m tags l = slice_index_or tags (leaf_number m l) keep
 
--- whether a location is a leaf with a tag
+-- whether a tag says that its leaf is to split
 abbrev pub is_split : Tag → Bool
 is_split split = true
 is_split _ = false
 
+-- whether a tag says that its leaf may merge
 abbrev pub is_merge : Tag → Bool
 is_merge merge = true
 is_merge _ = false
 
+-- whether a location is a leaf that is tagged to split
 abbrev pub is_leaf_to_split : Mesh → List Tag → Loc → Bool
 is_leaf_to_split m tags l = is_listed m.leaves l && is_split (tag_at m tags l)
 
+-- whether a location is a leaf that is tagged to merge, which it does only where all its siblings are as well
 abbrev pub is_leaf_to_merge : Mesh → List Tag → Loc → Bool
 is_leaf_to_merge m tags l = is_listed m.leaves l && is_merge (tag_at m tags l)
 

@@ -24,5 +24,6 @@ pub record IsNextTree (rules : Rules) (m : Mesh) (tags : List Tag) : Type 0 wher
   pub coarser : (before after : Loc) → IsLeaf m.shape (is_inner m) before → IsLeaf m.shape (next_inner rules m tags) after →
       LiesIn m.shape.dims before after → before.level ≤ after.level + 1
 
+-- on every mesh and for all tags within the levels, the next tree is the least one wanted, and close to the old one
 abbrev pub NextTreeLaw : Type 0
 NextTreeLaw = (rules : Rules) (m : Mesh) (tags : List Tag) → IsMesh m → FitLevels rules m tags → IsNextTree rules m tags

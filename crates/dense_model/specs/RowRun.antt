@@ -30,6 +30,7 @@ edge_by periodic amount = Open amount
 edge_by outflow amount = Open amount
 edge_by inflow amount = Open amount
 
+-- the low or the high face of the domain of the row, as a field meets it
 abbrev pub edge_at : Rules → ℕ → ℕ → Bool → Edge
 edge_at rules dims f high = edge_by (kind_at rules 0 high) (outside rules dims f 0 high 0)
 

@@ -15,6 +15,7 @@ use Rattle.dense_model.specs.declared.row_stage.Moving.{Moving}
 abbrev pub between : Transport → ℕ → ℕ → Passing
 between t below above = record { right = portion below t.right t.denominator; left = portion above t.left t.denominator }
 
+-- nothing passes, neither to the right nor to the left, as at a closed face
 abbrev pub nothing : Passing
 nothing = record { right = 0; left = 0 }
 
@@ -23,14 +24,17 @@ abbrev pub low_edge : Transport → Edge → ℕ → Passing
 low_edge t Closed first = nothing
 low_edge t (Open outside) first = between t outside first
 
+-- what passes the high face of the domain: to the right out of the last cell, to the left from what stands outside
 abbrev pub high_edge : Transport → Edge → ℕ → Passing
 high_edge t Closed last = nothing
 high_edge t (Open outside) last = between t last outside
 
+-- what passes the low end of a row: a face of the domain, or, where the ends are joined, the face between the last cell and the first
 abbrev pub low_end : Transport → Ends → ℕ → ℕ → Passing
 low_end t Joined first last = between t last first
 low_end t (Apart low high) first last = low_edge t low first
 
+-- what passes the high end of a row: where the ends are joined, this is the face of the low end, and what leaves here comes in there
 abbrev pub high_end : Transport → Ends → ℕ → ℕ → Passing
 high_end t Joined first last = between t last first
 high_end t (Apart low high) first last = high_edge t high last
@@ -39,6 +43,7 @@ high_end t (Apart low high) first last = high_edge t high last
 abbrev pub low_face : Moving → List ℕ → Passing
 low_face m row = low_end m.transport m.ends (slice_index row 0) (slice_index row (length row - 1))
 
+-- what passes the face above the last cell: of the faces 0 to 4 of a row of four cells it is face 4
 abbrev pub high_face : Moving → List ℕ → Passing
 high_face m row = high_end m.transport m.ends (slice_index row 0) (slice_index row (length row - 1))
 
@@ -64,7 +69,7 @@ abbrev pub AreBelow : ℕ → Ends → Type 0
 AreBelow most Joined = Unit {0}
 AreBelow most (Apart low high) = (amount_outside low < most) × (amount_outside high < most)
 
--- rates that take no more than the whole
+-- rates that take no more than the whole, where what stands outside of each open face is below 2 ^ 62
 pub record IsProper (m : Moving) : Type 0 where
   pub positive : 1 ≤ m.transport.denominator
   pub proper : m.transport.right + m.transport.left ≤ m.transport.denominator
@@ -94,5 +99,6 @@ rows_later (suc stages) rows = map row_next (rows_later stages rows)
 abbrev pub row_sum : List ℕ → ℕ
 row_sum row = sum_over row (λ total. total)
 
+-- what all rows hold together: the rows 1 2 and 3 4 hold 10
 abbrev pub sum_all : List (List ℕ) → ℕ
 sum_all rows = sum_over rows row_sum

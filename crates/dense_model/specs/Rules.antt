@@ -69,6 +69,7 @@ abbrev pub rightwards : ℤ → ℕ
 rightwards (pos v) = v
 rightwards (negsuc v) = zero
 
+-- how fast a velocity moves to the left: 3 where it is -3, and 0 where it points to the right
 abbrev pub leftwards : ℤ → ℕ
 leftwards (pos v) = zero
 leftwards (negsuc v) = suc v

@@ -80,6 +80,7 @@ opening_state rules opening =
     let mesh = opening_mesh rules opening in
     record { mesh = mesh; counters = replicate (length mesh.leaves) 0; mask = opening_mask rules mesh; flows = no_flows (length rules.fields) }
 
+-- a run before its first cycle: it stops there where the opening tree has more leaves than are allowed, and goes on with just as many
 abbrev pub opened : Rules → Opening → Outcome
 opened rules opening = cond (nat_le (length (leaves_of opening.shape (opening_inner rules opening))) rules.leaf_limit) (running (opening_state rules opening)) too_many_at_start
 

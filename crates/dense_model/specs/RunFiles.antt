@@ -34,6 +34,7 @@ leaves_in (running s) = length s.mesh.leaves
 leaves_in too_many_at_start = 0
 leaves_in (too_many_at _ _) = 0
 
+-- how many leaves a problem's run has after that many cycles
 abbrev pub leaves_after : Settings → ℕ → ℕ
 leaves_after p cycle = leaves_in (run_of p cycle)
 
@@ -43,18 +44,21 @@ total_in fields (running s) = sum_over (range_with_len 0 fields) (total_of s.mes
 total_in fields too_many_at_start = 0
 total_in fields (too_many_at _ _) = 0
 
+-- what all totals of all fields of a problem's run add up to after that many cycles
 abbrev pub total_after : Settings → ℕ → ℕ
 total_after p cycle = total_in (length (rules_of p).fields) (run_of p cycle)
 
--- a field's flows in the last cycle of a run, none where it has stopped
+-- a field's flows in a cycle in which nothing came in or went out, and no reaction made or used any of it
 abbrev pub nothing_flowed : Flow
 nothing_flowed = record { inflow = 0; outflow = 0; made = 0; used = 0 }
 
+-- a field's flows in the last cycle of a run, none where it has stopped
 abbrev pub flow_in : ℕ → Outcome → Flow
 flow_in f (running s) = slice_index_or s.flows f nothing_flowed
 flow_in f too_many_at_start = nothing_flowed
 flow_in f (too_many_at _ _) = nothing_flowed
 
+-- a field's flows in the last of that many cycles of a problem's run, none before the first one
 abbrev pub flow_after : Settings → ℕ → ℕ → Flow
 flow_after p cycle f = flow_in f (run_of p cycle)
 
@@ -64,6 +68,7 @@ field_total_in f (running s) = total_of s.mesh f
 field_total_in f too_many_at_start = 0
 field_total_in f (too_many_at _ _) = 0
 
+-- what a field's totals in a problem's run add up to after that many cycles
 abbrev pub field_total_after : Settings → ℕ → ℕ → ℕ
 field_total_after p cycle f = field_total_in f (run_of p cycle)
 

@@ -40,6 +40,7 @@ abbrev pub cell_inflow : Rules → Mesh → ℕ → Loc → ℕ
 cell_inflow rules m f c = sum_to m.shape.dims (λ axis.
     when_outside (cell_across m c axis false) (flux rules m f c axis false true) + when_outside (cell_across m c axis true) (flux rules m f c axis true false))
 
+-- what leaves the domain through the faces of a cell; what passes on to another cell is no outflow
 abbrev pub cell_outflow : Rules → Mesh → ℕ → Loc → ℕ
 cell_outflow rules m f c = sum_to m.shape.dims (λ axis.
     when_outside (cell_across m c axis false) (flux rules m f c axis false false) + when_outside (cell_across m c axis true) (flux rules m f c axis true true))
@@ -48,5 +49,6 @@ cell_outflow rules m f c = sum_to m.shape.dims (λ axis.
 abbrev pub inflow_of : Rules → Mesh → ℕ → ℕ
 inflow_of rules m f = sum_cells m (cell_inflow rules m f)
 
+-- a field's outflow in a stage, over all cells; inflow does not lessen it: where 5 come in and 3 go out, it is 3
 abbrev pub outflow_of : Rules → Mesh → ℕ → ℕ
 outflow_of rules m f = sum_cells m (cell_outflow rules m f)

@@ -90,5 +90,6 @@ tag_of limit _ count = cond (nat_le limit count) merge keep
 abbrev pub counters_after : Rules → Mesh → List ℕ → List ℕ
 counters_after rules m counters = map (λ (p : ℕ × Loc). counted rules.derefine_count (wish rules m p.1) (slice_index counters p.0)) (enumerate_from 0 m.leaves)
 
+-- the tags after a cycle: where ten wishes are asked for, the tenth in a row to derefine says merge, the first to refine says split
 abbrev pub tags_after : Rules → Mesh → List ℕ → List Tag
 tags_after rules m counters = map (λ (p : ℕ × Loc). tag_of rules.derefine_count (wish rules m p.1) (counted rules.derefine_count (wish rules m p.1) (slice_index counters p.0))) (enumerate_from 0 m.leaves)

@@ -64,14 +64,17 @@ abbrev pub totals_in : Outcome → List (List (List ℕ))
 totals_in (running s) = s.mesh.totals
 totals_in _ = []
 
+-- the leaves of a run that goes on, by rising key
 abbrev pub leaves_in : Outcome → List Loc
 leaves_in (running s) = s.mesh.leaves
 leaves_in _ = []
 
+-- a field's flows in the last cycle of a run that goes on
 abbrev pub flow_in : ℕ → Outcome → Flow
 flow_in f (running s) = slice_index_or s.flows f (record { inflow = 0; outflow = 0; made = 0; used = 0 })
 flow_in f _ = record { inflow = 0; outflow = 0; made = 0; used = 0 }
 
+-- on how many blocks a run that goes on keeps a field
 abbrev pub blocks_in : ℕ → Outcome → ℕ
 blocks_in f (running s) = blocks_with s.mask f
 blocks_in f _ = 0
@@ -88,9 +91,11 @@ EightShares = table 8 (share 11 8) ≡ 2 ∷ 2 ∷ 2 ∷ 1 ∷ 1 ∷ 1 ∷ 1 ∷
 abbrev pub reflecting_rules : Rules
 reflecting_rules = plain_rules 4 closed_faces (transported (codes "a") false (pos 1) (pos 0) (pos 0) ∷ [])
 
+-- one block of four cells in a row, with 8 in the first
 abbrev pub reflecting_opening : Opening
 reflecting_opening = opening_on 1 1 1 1 false [] (cell_box 0 0 0 0 8 ∷ [])
 
+-- the row at the start and after one and two cycles: a quarter of 8 is 2, of 6 it is floored to 1, and of 2 to none
 abbrev pub ReflectingRow : Type 0
 ReflectingRow =
     (totals_in (run reflecting_rules reflecting_opening 0) ≡ ((8 ∷ 0 ∷ 0 ∷ 0 ∷ []) ∷ []) ∷ [])
@@ -105,9 +110,11 @@ PeriodicRow = totals_in (run (record reflecting_rules { faces = replicate 6 peri
 abbrev pub graded_rules : Rules
 graded_rules = record (plain_rules 5 closed_faces (transported (codes "a_0") true (pos 1) (pos 0) (pos 0) ∷ [])) { levels = 2 }
 
+-- two root blocks in a row, the right one refined to level 1, with 5 in the last cell of the left one
 abbrev pub graded_opening : Opening
 graded_opening = opening_on 1 2 1 1 false (record { level = 1; lo = 4 ∷ 0 ∷ 0 ∷ []; hi = 7 ∷ 0 ∷ 0 ∷ [] } ∷ []) (cell_box 0 3 0 0 5 ∷ [])
 
+-- the 5 are seen as 3 and 2 one level finer; nothing passes, yet the finer block beside them is sent the field and keeps it
 abbrev pub GradedRow : Type 0
 GradedRow = let mesh = opening_mesh graded_rules graded_opening in
     (mesh.leaves ≡ at 0 0 0 0 ∷ at 1 2 0 0 ∷ at 1 3 0 0 ∷ [])
@@ -120,6 +127,7 @@ GradedRow = let mesh = opening_mesh graded_rules graded_opening in
 abbrev pub open_rules : Rules
 open_rules = plain_rules 4 (inflow ∷ outflow ∷ replicate 4 periodic) (record (transported (codes "a_0") true (pos 1) (pos 0) (pos 0)) { entering = 8 ∷ replicate 5 0 } ∷ [])
 
+-- 2 of the 8 outside come in with each cycle; where 8 stand in the last cell, first 2 and then 1 go out of it
 abbrev pub OpenRow : Type 0
 OpenRow = let empty = opening_on 1 1 1 1 false [] [] in let full = opening_on 1 1 1 1 false [] (cell_box 0 3 0 0 8 ∷ []) in
     (blocks_over open_rules empty 0 1 ≡ 0 ∷ 1 ∷ [])
@@ -134,9 +142,11 @@ OpenRow = let empty = opening_on 1 1 1 1 false [] [] in let full = opening_on 1 
 abbrev pub corner_rules : Rules
 corner_rules = record (plain_rules 4 closed_faces (transported (codes "a_0") true (pos 1) (pos 1) (pos 0) ∷ [])) { levels = 2 }
 
+-- two by two root blocks, all but the first refined to level 1, with 6 in the first one's cell at the corner where all four meet
 abbrev pub corner_opening : Opening
 corner_opening = opening_on 2 2 2 1 false (refined_box 1 4 7 0 7 ∷ refined_box 1 0 3 4 7 ∷ []) (cell_box 0 3 3 0 6 ∷ [])
 
+-- 1 of the 6 goes to the finer cell beside a share of 2; the finer block on the right and the one above are both sent the field
 abbrev pub CornerStage : Type 0
 CornerStage = let mesh = opening_mesh corner_rules corner_opening in
     (length mesh.leaves ≡ 13)

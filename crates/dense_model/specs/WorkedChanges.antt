@@ -17,21 +17,25 @@ use Rattle.dense_model.specs.Worked.{at, blocks_in, blocks_over, cell_box, close
 abbrev pub sparse_rules : Rules
 sparse_rules = plain_rules 4 closed_faces (transported (codes "a_0") true (pos 1) (pos 0) (pos 0) ∷ [])
 
+-- on how many of the two blocks the field is kept in the cycles 0 to 10: the right one frees it in 5 and 10, and is sent it again in 6
 abbrev pub SentAndFreed : Type 0
 SentAndFreed = blocks_over sparse_rules (opening_on 1 2 1 1 false [] (cell_box 0 3 0 0 1 ∷ [])) 0 10 ≡ 1 ∷ 2 ∷ 2 ∷ 2 ∷ 2 ∷ 1 ∷ 2 ∷ 2 ∷ 2 ∷ 2 ∷ 1 ∷ []
 
--- a tenth of a_0 becomes b_0: nothing of 9, one of 10
+-- a sparse field that reactions alone change: it has no ghost zones and passes no face
 abbrev pub still : List ℕ → FieldRules
 still label = record (transported label true (pos 0) (pos 0) (pos 0)) { has_ghosts = false; has_fluxes = false }
 
+-- two fields that stay where they are, and a reaction that turns a tenth of a_0 into b_0 in each cycle
 abbrev pub reacting_rules : Rules
 reacting_rules = record (plain_rules 1000 (replicate 6 periodic) (still (codes "a_0") ∷ still (codes "b_0") ∷ [])) {
   reactions = record { reactant = 0; product = 1; num = 1; den = 10 } ∷ [];
 }
 
+-- one block of four cells in a row, with an amount of a_0 in the first
 abbrev pub opening_with : ℕ → Opening
 opening_with amount = opening_on 1 1 1 1 true [] (cell_box 0 0 0 0 amount ∷ [])
 
+-- a tenth of a_0 becomes b_0: nothing of 9, one of 10
 abbrev pub Reacts : Type 0
 Reacts =
     (totals_in (run reacting_rules (opening_with 9) 1) ≡ ((9 ∷ 0 ∷ 0 ∷ 0 ∷ []) ∷ (0 ∷ 0 ∷ 0 ∷ 0 ∷ []) ∷ []) ∷ [])
@@ -58,6 +62,7 @@ peak_rules = record (plain_rules 1000 closed_faces (transported (codes "a_0") tr
   criteria = record { field = 0; measured_by = peak; refine_above = 9; derefine_below = 5; finest_level = 1 } ∷ [];
 }
 
+-- the block splits in cycle 1, its 10 shared as 5 and 5; the right half holds none of it and is freed of it in cycle 6
 abbrev pub AdaptiveRow : Type 0
 AdaptiveRow = let opening = opening_on 1 1 1 1 false [] (cell_box 0 0 0 0 10 ∷ []) in
     (leaves_in (run peak_rules opening 1) ≡ at 1 0 0 0 ∷ at 1 1 0 0 ∷ [])
@@ -68,12 +73,15 @@ AdaptiveRow = let opening = opening_on 1 1 1 1 false [] (cell_box 0 0 0 0 10 ∷
 abbrev pub nested_opening : Opening
 nested_opening = opening_on 2 2 2 1 false (refined_box 2 3 3 3 3 ∷ []) []
 
+-- the inner nodes of that tree: the four roots, and the one block of level 1 that the box meets
 abbrev pub nested_inner : List Loc
 nested_inner = at 0 0 0 0 ∷ at 1 1 1 0 ∷ at 0 1 0 0 ∷ at 0 0 1 0 ∷ at 0 1 1 0 ∷ []
 
+-- whether a location is an inner node of the least balanced tree that is refined to level 2 in the box
 abbrev pub nested_wanted : Loc → Bool
 nested_wanted = least 1 nested_opening.shape (wanted_by 2 nested_opening.cells nested_opening.static_boxes)
 
+-- the box makes just these nodes inner: 7 leaves on the root that it meets, and 4 on each of the three others
 abbrev pub NestedTree : Type 0
 NestedTree = (inner_of nested_opening.shape nested_wanted ≡ nested_inner) × (length (leaves_of nested_opening.shape nested_wanted) ≡ 19)
 
