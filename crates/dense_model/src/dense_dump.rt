@@ -1,8 +1,8 @@
 //! The text of a dump of one block along one axis, its name, and when there is one.
 
-ghost use Rattle.std.specs.Prelude.{◌≡◌, ℕ, ◌+◌, ◌==◌, ◌<◌, ◌≤◌, ◌^◌, ◌++◌, true, cond, [], IfOk, OnOk, length, map, codes, count_by, slice_index};
+ghost use Rattle.std.specs.Prelude.{◌≡◌, ◌+◌, ◌==◌, ◌<◌, ◌≤◌, ◌++◌, IfOk, OnOk, length, map, codes, count_by, slice_index};
 ghost use Rattle.std.specs.String.{string_bytes};
-ghost use Rattle.std.specs.List.{list_all, flat_map, join_with_byte};
+ghost use Rattle.std.specs.List.{flat_map, join_with_byte};
 ghost use Rattle.std.specs.Fmt.{decimal};
 ghost use Rattle.package_fields.specs.Fields.{labels};
 ghost use Rattle.problem_set.specs.SettingsOf.{settings_of};

@@ -1,6 +1,6 @@
-ghost use Rattle.std.specs.Prelude.{◌≡◌, ◌+◌, ◌-◌, ◌++◌, ◌<◌, ◌≤◌, ◌↔◌, IfOk, OnOk, OnErr, IsTrue, true, string_bytes, map, length, replicate, All, ℕ, ◌^◌};
+ghost use Rattle.std.specs.Prelude.{◌≡◌, ◌+◌, ◌-◌, ◌++◌, ◌<◌, ◌≤◌, ◌↔◌, IfOk, OnOk, OnErr, IsTrue, true, map, length, replicate, All, ℕ, ◌^◌};
 ghost use Rattle.problem_set.specs.SettingsOf.{settings_of};
-ghost use Rattle.dense_model.specs.OfProblem.{is_built, rules_of};
+ghost use Rattle.dense_model.specs.OfProblem.{is_built};
 ghost use Rattle.dense_model.specs.Rows.{IsReady, row_next, rows_later, row_sum, sum_all};
 ghost use Rattle.dense_model.specs.RowRun.{states_of, opening_rows, empty_states, totals_in};
 ghost use Rattle.dense_model.specs.Flows.{flows_later, no_flow};

@@ -1,4 +1,4 @@
-ghost use Rattle.std.specs.Prelude.{◌≡◌, ℕ, ◌+◌, ◌<◌, ◌≤◌, ◌^◌, ◌&&◌, nat_le, cond, IfOk, map, length, replicate, slice_index, All};
+ghost use Rattle.std.specs.Prelude.{◌≡◌, ◌+◌, ◌<◌, ◌≤◌, ◌^◌, ◌&&◌, nat_le, cond, IfOk, map, length, replicate, slice_index, All};
 ghost use Rattle.std.specs.List.{range_with_len};
 ghost use Rattle.dense_model.specs.Rows.{IsReady, row_next};
 ghost use Rattle.dense_model.specs.Flows.{flow_of as row_flow_of};

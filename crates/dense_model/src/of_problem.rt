@@ -3,7 +3,7 @@
 ghost use Rattle.std.specs.Prelude.{◌≡◌, ◌<◌, not, length};
 ghost use Rattle.std.specs.List.{list_all};
 ghost use Rattle.problem_set.specs.SettingsOf.{settings_of};
-ghost use Rattle.dense_model.specs.OfProblem.{is_built, is_plain, kind_of, may_be_absent, rules_of};
+ghost use Rattle.dense_model.specs.OfProblem.{is_built, is_plain, may_be_absent, rules_of};
 ghost use Rattle.dense_model.specs.Rules.{side_number};
 ghost use Rattle.dense_model.specs.Faces.{field_at, entering_at};
 ghost use Rattle.dense_model.specs.RowRun.{edge_at, moving_at};
@@ -11,6 +11,10 @@ ghost use Rattle.dense_model.specs.RowRun.{edge_at, moving_at};
 use crate::row_stage::{Edge, Ends, Moving, Transport};
 use package_fields::{Flag, Registry};
 use problem_set::{FaceKind, Mode, Problem};
+
+/// The low and the high face of an axis, where a face is asked for by whether it is the high one.
+const LOW: bool = false;
+const HIGH: bool = true;
 
 /// Whether a problem is built so far: one block along one axis that is never refined, with no sparse
 /// field and no reaction.
@@ -59,8 +63,8 @@ pub fn moving_at(problem: &Problem, field: usize) -> Moving
         Ends::Joined
     } else {
         Ends::Apart(
-            edge_at(problem, field, false),
-            edge_at(problem, field, true),
+            edge_at(problem, field, LOW),
+            edge_at(problem, field, HIGH),
         )
     };
     Moving { transport, ends }

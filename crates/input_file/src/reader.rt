@@ -2,7 +2,7 @@ ghost use Rattle.std.specs.Prelude.{◌≡◌, ◌≢◌, ◌+◌, ◌≤◌, So
 ghost use Rattle.input_file.specs.Texts.{is_block_name, is_key, is_value};
 ghost use Rattle.input_file.specs.Blocks.{with_block};
 ghost use Rattle.input_file.specs.Lines.{form_of};
-ghost use Rattle.input_file.specs.Decks.{after_form, after_setting, after_lines, lines_of, deck_of_text, deck};
+ghost use Rattle.input_file.specs.Decks.{after_form, after_setting, deck_of_text, deck};
 ghost use Rattle.input_file.specs.Answers.{Answers};
 
 use crate::deck::Deck;

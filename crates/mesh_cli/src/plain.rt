@@ -1,4 +1,4 @@
-ghost use Rattle.std.specs.Prelude.{◌≡◌, ℕ, ◌≤◌, List, map, string_bytes};
+ghost use Rattle.std.specs.Prelude.{◌≡◌, map, string_bytes};
 ghost use Rattle.std.specs.Option.{ForSome};
 ghost use Rattle.mesh_outside.specs.Fault.{Rose};
 ghost use Rattle.mesh_outside.specs.Gained.{IsClosed};
@@ -12,8 +12,8 @@ use mesh_input::Status;
 use mesh_outside::{Depot, Sink};
 use std::alloc::Global;
 
-/// Reads the words after the program's name, and the file that they name with its overrides; lists
-/// the deck, or runs the problem and writes its files; and prints how that ended, in one line.
+/// Reads the words after the program's name, and the file that they name with its overrides; prints
+/// the deck, or runs the problem, writes its files and prints in one line how that ended.
 pub fn mesh_plain<D: Depot, K: Sink>(
     alloc: Global,
     words: &[String],

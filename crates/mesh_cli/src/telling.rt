@@ -1,4 +1,4 @@
-ghost use Rattle.std.specs.Prelude.{◌≡◌, ℕ, ◌≤◌, List, codes};
+ghost use Rattle.std.specs.Prelude.{◌≡◌};
 ghost use Rattle.mesh_outside.specs.Fault.{Rose};
 ghost use Rattle.mesh_cli.specs.Printing.{Prints, Tells};
 

@@ -1,4 +1,4 @@
-ghost use Rattle.std.specs.Prelude.{◌≡◌, map};
+ghost use Rattle.std.specs.Prelude.{map};
 ghost use Rattle.input_file.specs.Overrides.{overridden};
 ghost use Rattle.problem_set.specs.SettingsOf.{settings_of};
 ghost use Rattle.mesh_input.specs.Inputs.{accepted, deck_read, or_override_fault, overridden_by, problem_read};

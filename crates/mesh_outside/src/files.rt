@@ -26,6 +26,7 @@ impl Name {
         Name { text }
     }
 
+    /// The text of the name.
     pub fn as_str(&self) -> &str
         ensures { result.now ≡ self.now }
     {
@@ -55,6 +56,7 @@ impl Bytes {
         Bytes { bytes }
     }
 
+    /// The bytes in order.
     pub fn as_bytes(&self) -> &[u8]
         ensures { result.now ≡ self.now }
     {

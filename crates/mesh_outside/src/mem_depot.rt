@@ -1,5 +1,5 @@
-ghost use Rattle.std.specs.Prelude.{◌≡◌, ℕ, ◌≤◌, ◌/◌, ◌⊎◌, List, length, take, true, false, Option, Some, None, Contains, Err, IsTrue, IsErr, OnOk, OnErr, IfOk};
-ghost use Rattle.std.specs.Option.{option_map, ForSome};
+ghost use Rattle.std.specs.Prelude.{◌≡◌, ℕ, ◌≤◌, ◌/◌, ◌⊎◌, List, length, take, true, false, Some, None, Contains, Err, IsTrue, IsErr, OnOk, OnErr, IfOk};
+ghost use Rattle.std.specs.Option.{ForSome};
 ghost use Rattle.mesh_outside.specs.Fault.{HasCause, next};
 ghost use Rattle.mesh_outside.specs.Files.{Reads, input_of};
 ghost use Rattle.mesh_outside.specs.Gained.{IsClosed, IsOpen, begun, appended, finished, AppendsFront};
@@ -68,7 +68,7 @@ impl MemDepot {
 }
 
 impl Depot for MemDepot {
-    ghost use Rattle.std.specs.Prelude.{Some, ◌+◌};
+    ghost use Rattle.std.specs.Prelude.{Some};
     ghost use Rattle.mesh_outside.specs.MemState.{read_faults_of};
 
     ghost inputs = { λ d. Some d.inputs };

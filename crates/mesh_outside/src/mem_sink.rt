@@ -1,4 +1,4 @@
-ghost use Rattle.std.specs.Prelude.{◌≡◌, ℕ, [], ◌++◌, ◌↔◌, Some, Err, OnOk, OnErr};
+ghost use Rattle.std.specs.Prelude.{◌≡◌, ◌++◌, ◌↔◌, Some, Err, OnOk, OnErr};
 ghost use Rattle.mesh_outside.specs.Fault.{HasCause, next};
 ghost use Rattle.mesh_outside.specs.SinkState.{opening};
 

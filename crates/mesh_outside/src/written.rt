@@ -31,18 +31,21 @@ impl Written {
         }
     }
 
+    /// How many files were gained.
     pub fn len(&self) -> usize
         ensures { result ≡ length self.now }
     {
         self.files.len()
     }
 
+    /// Whether no file was gained.
     pub fn is_empty(&self) -> bool
         ensures { result ≡ (length self.now == 0) }
     {
         self.files.is_empty()
     }
 
+    /// The file at a place, in the order of gaining; None past the end.
     pub fn get(&self, at: usize) -> Option<&Gained>
         ensures { option_copied result ≡ slice_get self.now at }
     {

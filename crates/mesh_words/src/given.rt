@@ -1,4 +1,4 @@
-ghost use Rattle.std.specs.Prelude.{◌≡◌, codes, option_map};
+ghost use Rattle.std.specs.Prelude.{◌≡◌, option_map};
 ghost use Rattle.clap.specs.Words.{rows_of, found_of, first_of};
 ghost use Rattle.mesh_words.specs.Command.{is_set};
 ghost use Rattle.mesh_words.specs.Numbers.{is_workers, is_seed, is_prefix};

@@ -1,7 +1,7 @@
 //! All neighbours of a location.
 
-ghost use Rattle.std.specs.Prelude.{◌≡◌, ◌<◌, ℕ, All, IfSome, IsTrue, ◌↔◌};
-ghost use Rattle.morton_order.specs.Space.{IsIn, IsShape, blocks_along, axis_of};
+ghost use Rattle.std.specs.Prelude.{◌≡◌, ◌<◌, All, IfSome, IsTrue, ◌↔◌};
+ghost use Rattle.morton_order.specs.Space.{IsIn, IsShape, blocks_along};
 ghost use Rattle.morton_order.specs.Neighbours.{at_offset as at_offset_of};
 ghost use Rattle.morton_order.specs.Neighbours.{at_offsets as at_offsets_of, neighbours as neighbours_of};
 

@@ -1,6 +1,6 @@
 //! Walks on the lattices: up and down the levels, across a side.
 
-ghost use Rattle.std.specs.Prelude.{◌≡◌, ◌<◌, ◌≤◌, ◌+◌, ◌*◌, ◌^◌, ℕ, IfSome};
+ghost use Rattle.std.specs.Prelude.{◌≡◌, ◌<◌, ◌≤◌, ◌+◌, ◌*◌, ◌^◌, IfSome};
 ghost use Rattle.morton_order.specs.declared.space.Shape.{Shape};
 ghost use Rattle.morton_order.specs.Space.{IsIn, IsLoc, IsShape, parts};
 ghost use Rattle.morton_order.specs.Space.{parent as parent_of, child as child_of, factor as factor_of};

@@ -1,11 +1,10 @@
-ghost use Rattle.std.specs.Prelude.{◌≡◌, ◌<◌, ◌≤◌, ◌++◌, [], None, Some, length, take, slice_get, map, position, All, IfSome, OnOk, OnErr};
-ghost use Rattle.std.specs.List.{IsDistinct};
+ghost use Rattle.std.specs.Prelude.{◌≡◌, ◌<◌, ◌≤◌, ◌++◌, [], None, Some, length, slice_get, map, position, IfSome, OnOk, OnErr};
 ghost use Rattle.std.specs.Str.{bytes_eq};
-ghost use Rattle.package_fields.specs.Flags.{permitted, has};
+ghost use Rattle.package_fields.specs.Flags.{has};
 ghost use Rattle.package_fields.specs.Fields.{Registered, IsSound, labels, is_among, has_label};
 ghost use Rattle.package_fields.specs.Registered.{Fails, field_fault, fields_fault, package_fault, with_package};
 
-use crate::fault::{FieldFault, NoMemory};
+use crate::fault::FieldFault;
 use crate::field::{Field, Package};
 use crate::flag::{Flag, has_flag, is_permitted};
 use crate::name::Name;
@@ -21,10 +20,8 @@ pub struct Registry {
 }
 
 impl Model for Registry {
-    ghost use Rattle.std.specs.Prelude.{◌≤◌, All, length};
-    ghost use Rattle.std.specs.List.{IsDistinct};
+    ghost use Rattle.std.specs.Prelude.{◌≤◌, length};
     ghost use Rattle.std.specs.Str.{bytes_eq};
-    ghost use Rattle.package_fields.specs.Flags.{permitted};
     ghost use Rattle.package_fields.specs.Fields.{Registered, labels, IsSound};
 
     ghost Value = { Registered };
