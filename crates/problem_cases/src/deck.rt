@@ -18,7 +18,7 @@ pub fn changed(alloc: Global, line: &str) -> Result<Deck, DeckFault> {
     Ok(deck)
 }
 
-/// Makes one change, or the changes of a repeated word.
+/// Makes one change, or the changes of a repeated word, whose count must be a number.
 fn change(alloc: Global, deck: &mut Deck, word: &str) -> Result<(), DeckFault> {
     if word.is_empty() {
         return Ok(());
@@ -29,7 +29,10 @@ fn change(alloc: Global, deck: &mut Deck, word: &str) -> Result<(), DeckFault> {
     let Some((before, after)) = word.split_once('#') else {
         return deck.apply(word);
     };
-    for i in 0..count.parse::<u32>().unwrap_or(0) {
+    let Ok(count) = count.parse::<u32>() else {
+        return Err(DeckFault::BadOverride);
+    };
+    for i in 0..count {
         let Ok(numbered) = format!(in alloc; "{before}{i}{after}") else {
             return Err(DeckFault::NoMemory);
         };

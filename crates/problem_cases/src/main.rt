@@ -3,7 +3,8 @@
 //!
 //! A line is override words between semicolons. A line that begins with `+` changes a small deck with
 //! one field and one box, any other the empty deck. The word `N*block/#/key=value` stands for the N
-//! words with the numbers from 0 on in place of `#`.
+//! words with the numbers from 0 on in place of `#`. Where a `?` stands before all this, the answer is
+//! all that the problem says.
 #![tactic(auto)]
 
 mod answer;
