@@ -6,6 +6,8 @@ mod calls;
 #[cfg(test)]
 mod decks;
 #[cfg(test)]
+mod dense_files;
+#[cfg(test)]
 mod faults;
 #[cfg(test)]
 mod lines;
