@@ -24,30 +24,55 @@ pub fn dump(alloc: Global, cycle: u32, row: &str) -> Result<String, AllocError> 
     Ok(text)
 }
 
-/// A deck of four cells with that many fields and nothing in them.
+/// A deck of four cells and one cycle with that many fields: the field after F others has 1000 * (F + 1)
+/// in the first cell, of which a thousandth moves to the right.
 pub fn many_fields(alloc: Global, count: u32) -> Result<String, AllocError> {
     let mut text = String::from_str(
         alloc,
         "<parthenon/mesh>\nnx1 = 4\n<parthenon/time>\nnlim = 1\n",
     )?;
     for field in 0..count {
-        write!(text, "<field/f{field}>\nv1 = 1\n")?;
+        let amount = 1000 * (u64::from(field) + 1);
+        write!(
+            text,
+            "<field/f{field}>\nv1 = 1\n<box/b{field}>\nfield = f{field}\n"
+        )?;
+        write!(text, "lo1 = 0\nhi1 = 0\namount = {amount}\n")?;
     }
     Ok(text)
 }
 
-/// The dump of a cycle of that deck.
+/// The dump of that deck before or after its cycle.
 pub fn many_fields_dump(alloc: Global, cycle: u32, count: u32) -> Result<String, AllocError> {
     let mut text = String::from_str(alloc, "parthenon-whole dump 1\n")?;
     write!(text, "cycle {cycle}\n")?;
     text.push_str("dims 1 cells 4 1 1 root 1 1 1\n")?;
     write!(text, "fields {count}\n")?;
+    push_labels(&mut text, count)?;
+    text.push_str("blocks 1\nblock 0 level 0 at 0 0 0 zero 0\n")?;
+    push_rows(&mut text, cycle, count)?;
+    text.push_str("end\n")?;
+    Ok(text)
+}
+
+fn push_labels(text: &mut String, count: u32) -> Result<(), AllocError> {
     for field in 0..count {
         write!(text, "f{field}\n")?;
     }
-    text.push_str("blocks 1\n")?;
-    write!(text, "block 0 level 0 at 0 0 0 zero {count}\nend\n")?;
-    Ok(text)
+    Ok(())
+}
+
+fn push_rows(text: &mut String, cycle: u32, count: u32) -> Result<(), AllocError> {
+    for field in 0..count {
+        let moved = u64::from(field) + 1;
+        let (first, second) = if cycle == 0 {
+            (1000 * moved, 0)
+        } else {
+            (999 * moved, moved)
+        };
+        write!(text, "field f{field}\n{first} {second} 0 0\n")?;
+    }
+    Ok(())
 }
 
 /// The deck of one block between static boxes, that many of them.

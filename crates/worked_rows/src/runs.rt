@@ -114,6 +114,10 @@ fn each_field_of_a_deck_is_in_its_dumps(rt: HostRuntime) -> Result<(), TestFail>
     let deck = many_fields(alloc, 256)?;
     let called = call(alloc, &["-d", "out/many", "-i", "deck"], deck.as_bytes())?;
     assert_eq!(rt; called.status, Status::Done);
+    assert_eq!(rt;
+        called.out.printed(),
+        b"done cycles=1 blocks=1 total=32896000\n".as_slice()
+    );
     assert_eq!(rt; called.depot.written().len(), 2);
     for (at, name) in ["out/many.000000.dump", "out/many.000001.dump"]
         .iter()
