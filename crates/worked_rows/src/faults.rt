@@ -1,7 +1,9 @@
 use crate::calls::{call, call_failing, failing};
 use crate::decks::{ONE_BLOCK, dump};
 use mesh_cli::Status;
-use mesh_outside::{Fail, Fails};
+use mesh_outside::{Fail, Fails, Written};
+use std::alloc::Global;
+use std::process::Abort;
 use std::test::Fail as TestFail;
 
 const ROWS: [&str; 3] = ["8 0 0 0", "6 2 0 0", "5 3 0 0"];
@@ -16,89 +18,100 @@ fn an_absent_file_is_a_read_fault(rt: HostRuntime) -> Result<(), TestFail> {
     Ok(())
 }
 
-// The call that fails, the status with its line, and what is there then: whole dumps, and bytes of
-// the next one.
+/// A call that fails, the status with its line, and what is there then: how many whole dumps, and how
+/// many bytes of the next one, where it was begun.
+const FAULTS: [(Fail, Status, &str, usize, Option<usize>); 12] = [
+    (Fail::Read(1), Status::ReadFault, "read fault\n", 0, None),
+    (Fail::Read(2), Status::ReadFault, "read fault\n", 0, None),
+    (Fail::Begin(1), Status::WriteFault, "write fault\n", 0, None),
+    (Fail::Begin(2), Status::WriteFault, "write fault\n", 1, None),
+    (Fail::Begin(3), Status::WriteFault, "write fault\n", 2, None),
+    (
+        Fail::AppendOf(1),
+        Status::WriteFault,
+        "write fault\n",
+        0,
+        Some(66),
+    ),
+    (
+        Fail::AppendOf(2),
+        Status::WriteFault,
+        "write fault\n",
+        1,
+        Some(66),
+    ),
+    (
+        Fail::AppendOf(3),
+        Status::WriteFault,
+        "write fault\n",
+        2,
+        Some(66),
+    ),
+    (
+        Fail::Finish(1),
+        Status::WriteFault,
+        "write fault\n",
+        0,
+        Some(133),
+    ),
+    (
+        Fail::Finish(2),
+        Status::WriteFault,
+        "write fault\n",
+        1,
+        Some(133),
+    ),
+    (
+        Fail::Finish(3),
+        Status::WriteFault,
+        "write fault\n",
+        2,
+        Some(133),
+    ),
+    (
+        Fail::Begin(4),
+        Status::Done,
+        "done cycles=2 blocks=1 total=8\n",
+        3,
+        None,
+    ),
+];
+
 #[test]
 fn a_failing_call_leaves_what_was_written(rt: HostRuntime) -> Result<(), TestFail> {
     let alloc = rt.alloc();
-    let rows: [(Fail, Status, &str, usize, Option<usize>); 12] = [
-        (Fail::Read(1), Status::ReadFault, "read fault\n", 0, None),
-        (Fail::Read(2), Status::ReadFault, "read fault\n", 0, None),
-        (Fail::Begin(1), Status::WriteFault, "write fault\n", 0, None),
-        (Fail::Begin(2), Status::WriteFault, "write fault\n", 1, None),
-        (Fail::Begin(3), Status::WriteFault, "write fault\n", 2, None),
-        (
-            Fail::AppendOf(1),
-            Status::WriteFault,
-            "write fault\n",
-            0,
-            Some(66),
-        ),
-        (
-            Fail::AppendOf(2),
-            Status::WriteFault,
-            "write fault\n",
-            1,
-            Some(66),
-        ),
-        (
-            Fail::AppendOf(3),
-            Status::WriteFault,
-            "write fault\n",
-            2,
-            Some(66),
-        ),
-        (
-            Fail::Finish(1),
-            Status::WriteFault,
-            "write fault\n",
-            0,
-            Some(133),
-        ),
-        (
-            Fail::Finish(2),
-            Status::WriteFault,
-            "write fault\n",
-            1,
-            Some(133),
-        ),
-        (
-            Fail::Finish(3),
-            Status::WriteFault,
-            "write fault\n",
-            2,
-            Some(133),
-        ),
-        (
-            Fail::Begin(4),
-            Status::Done,
-            "done cycles=2 blocks=1 total=8\n",
-            3,
-            None,
-        ),
-    ];
-    for (fail, status, line, whole, part) in rows {
+    for (fail, status, line, whole, part) in FAULTS {
         let fails = failing(alloc, fail)?;
         let called = call_failing(alloc, &["-i", "deck"], ONE_BLOCK.as_bytes(), fails, 0)?;
         assert_eq!(rt; called.status, status);
         assert_eq!(rt; called.out.printed(), line.as_bytes());
-        let written = called.depot.written();
-        let count = match part {
-            Some(_) => whole.saturating_add(1),
-            None => whole,
+        check_left(&rt, alloc, called.depot.written(), whole, part)?;
+    }
+    Ok(())
+}
+
+fn check_left(
+    rt: &impl Abort,
+    alloc: Global,
+    written: &Written,
+    whole: usize,
+    part: Option<usize>,
+) -> Result<(), TestFail> {
+    let count = match part {
+        Some(_) => whole.saturating_add(1),
+        None => whole,
+    };
+    assert_eq!(rt; written.len(), count);
+    for (cycle, row) in ROWS.iter().enumerate().take(count) {
+        let file = written.get(cycle).ok_or("a file is missing")?;
+        let text = dump(alloc, cycle as u32, *row)?;
+        let length = match part {
+            Some(length) if cycle >= whole => length,
+            _ => text.len(),
         };
-        assert_eq!(rt; written.len(), count);
-        for (cycle, row) in ROWS.iter().enumerate().take(count) {
-            let file = written.get(cycle).ok_or("a file is missing")?;
-            let text = dump(alloc, cycle as u32, *row)?;
-            assert_eq!(rt; file.whole, cycle < whole);
-            assert!(rt; text.as_bytes().starts_with(file.bytes.as_bytes()));
-            let length = match part {
-                Some(length) if cycle >= whole => length,
-                _ => text.len(),
-            };
-            assert_eq!(rt; file.bytes.as_bytes().len(), length);
-        }
+        assert_eq!(rt; file.whole, cycle < whole);
+        assert!(rt; text.as_bytes().starts_with(file.bytes.as_bytes()));
+        assert_eq!(rt; file.bytes.as_bytes().len(), length);
     }
     Ok(())
 }
