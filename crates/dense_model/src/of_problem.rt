@@ -12,8 +12,10 @@ use crate::row_stage::{Edge, Ends, Moving, Transport};
 use package_fields::{Flag, Registry};
 use problem_set::{FaceKind, Mode, Problem};
 
-/// The low and the high face of an axis, where a face is asked for by whether it is the high one.
+/// The low face of an axis, where a face is asked for by whether it is the high one.
 const LOW: bool = false;
+
+/// The high face.
 const HIGH: bool = true;
 
 /// Whether a problem is built so far: one block along one axis that is never refined, with no sparse
@@ -62,10 +64,7 @@ pub fn moving_at(problem: &Problem, field: usize) -> Moving
     let ends = if problem.shape.wrap[0] {
         Ends::Joined
     } else {
-        Ends::Apart(
-            edge_at(problem, field, LOW),
-            edge_at(problem, field, HIGH),
-        )
+        Ends::Apart(edge_at(problem, field, LOW), edge_at(problem, field, HIGH))
     };
     Moving { transport, ends }
 }
