@@ -13,7 +13,7 @@ use Rattle.problem_set.specs.Settings.{Settings}
 use Rattle.problem_set.specs.SettingsOf.{settings_of}
 use Rattle.problem_set.specs.Sound.{IsCellsAlong}
 use Rattle.problem_set.specs.SoundEntries.{IsStatic}
-use Rattle.dense_model.specs.OfProblem.{is_built, is_plain, may_be_absent}
+use Rattle.dense_model.specs.OfProblem.{is_built, is_first_order, is_plain, may_be_absent}
 use Rattle.dense_model.proofs.RowRuns.{IsOneRow}
 
 left_of : (a b : Bool) → (a && b) ≡ true → a ≡ true
@@ -39,8 +39,9 @@ pub record Tests (p : Settings) : Type 0 where
   pub levels : p.levels ≡ 1
   pub reactions : p.reactions ≡ []
 
-six : (a b c d e f : Bool) → (a && b && c && d && e && f) ≡ true → (a ≡ true) × (b ≡ true) × (c ≡ true) × (d ≡ true) × (f ≡ true)
-six a b c d e f h =
+seven : (a b c d e f g : Bool) → (a && b && c && d && e && f && g) ≡ true → (a ≡ true) × (b ≡ true) × (c ≡ true) × (d ≡ true) × (f ≡ true)
+seven a b c d e f g all =
+    let h = left_of (a && b && c && d && e && f) g all in
     let h1 = left_of (a && b && c && d && e) f h in
     let h2 = left_of (a && b && c && d) e h1 in
     let h3 = left_of (a && b && c) d h2 in
@@ -49,7 +50,7 @@ six a b c d e f h =
 
 pub tests_of : (p : Settings) → is_built p ≡ true → Tests p
 tests_of p h =
-    let t = six (nat_eq p.shape.dims 1) (nat_eq (slice_index p.shape.root 0) 1) (is_plain p.mode) (nat_eq p.levels 1) (list_all (λ f. not (may_be_absent f)) p.fields.fields) (nat_eq (length p.reactions) 0) h in
+    let t = seven (nat_eq p.shape.dims 1) (nat_eq (slice_index p.shape.root 0) 1) (is_plain p.mode) (nat_eq p.levels 1) (list_all (λ f. not (may_be_absent f)) p.fields.fields) (nat_eq (length p.reactions) 0) (list_all is_first_order p.moves) h in
     record {
       axes = is_one p.shape.dims t.0;
       roots = is_one (slice_index p.shape.root 0) t.1;
@@ -104,6 +105,9 @@ no_statics size levels (s ∷ ss) e all =
 pub size2_is : (p : Problem) → is_built (settings_of p) ≡ true → get_or p.size 1 0 ≡ 1
 size2_is p h = dims_one (get_or p.size 1 0) (get_or p.size 2 0) (sym p.grid_sound.axes ∙ (tests_of (settings_of p) h).axes)
 
+pub size3_is : (p : Problem) → is_built (settings_of p) ≡ true → get_or p.size 2 0 ≡ 1
+size3_is p h = p.size_sound.flat3 (size2_is p h)
+
 pub one_row : (p : Problem) → is_built (settings_of p) ≡ true → IsOneRow (settings_of p)
 one_row p h =
     let t = tests_of (settings_of p) h in
@@ -116,7 +120,7 @@ one_row p h =
         root2 = lone p.shape.dims 1 (root_along p.shape 1) t.axes (omega arith) shape.roots2;
         root3 = lone p.shape.dims 2 (root_along p.shape 2) t.axes (omega arith) shape.roots3;
       };
-      cells = three_are p.cells cells.three (one_cell _ _ (size2_is p h) cells.along2) (one_cell _ _ p.size_sound.one3 cells.along3);
+      cells = three_are p.cells cells.three (one_cell _ _ (size2_is p h) cells.along2) (one_cell _ _ (size3_is p h) cells.along3);
       statics = no_statics p.size p.levels p.statics t.levels p.entries_sound.statics_sound;
       levels = t.levels;
       plain = t.plain;

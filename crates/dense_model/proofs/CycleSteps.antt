@@ -24,7 +24,7 @@ use Rattle.dense_model.specs.RowRun.{IsRunAt, empty_states, moving_at, opening_r
 use Rattle.dense_model.specs.RunFiles.{total_after, total_in}
 use Rattle.dense_model.specs.Texts.{total_of}
 use Rattle.dense_model.specs.Flows.{no_row}
-use Rattle.dense_model.proofs.Built.{one_row, size2_is, tests_of}
+use Rattle.dense_model.proofs.Built.{one_row, size2_is, size3_is, tests_of}
 use Rattle.dense_model.proofs.FieldBounds.{fields_are}
 use Rattle.dense_model.proofs.RowMesh.{table_same}
 use Rattle.dense_model.proofs.RowRuns.{rows_are, rows_at_zero, runs_to, table_at}
@@ -179,7 +179,7 @@ box_added p i d rows built inside is =
     let count = length-map-range_with_len (boxed_state s (take i p.boxes)) 0 fields in
     let here : b.field < fields = omega (arith, ok.field, fields_are p) in
     let low2 : slice_index b.lo 1 ≡ 0 = omega (arith, ok.part.along2.ordered, ok.part.along2.within, size2_is p built) in
-    let low3 : slice_index b.lo 2 ≡ 0 = omega (arith, ok.part.along3.ordered, ok.part.along3.within, p.size_sound.one3) in
+    let low3 : slice_index b.lo 2 ≡ 0 = omega (arith, ok.part.along3.ordered, ok.part.along3.within, size3_is p built) in
     let now : RowState = boxed_state s (take i p.boxes) b.field in
     let at = table_at fields (boxed_state s (take i p.boxes)) b.field no_row here in
     let cells = length-map-range_with_len (λ place. boxes_part (take i p.boxes) b.field place) 0 n in

@@ -17,7 +17,7 @@ use Rattle.problem_set.specs.declared.words.FaceKind.{FaceKind as ProblemFace}
 use Rattle.problem_set.specs.declared.words.FaceKind.TheVariants.{Periodic, Outflow, Reflecting, Inflow}
 use Rattle.problem_set.specs.SettingsOf.{settings_of}
 use Rattle.problem_set.specs.Rates.{downwards, upwards, velocity, face_inflow, field_inflow, is_inflow, left_rate, rate_sum, right_rate}
-use Rattle.problem_set.specs.SoundEntries.{IsMoves, greatest_total}
+use Rattle.problem_set.specs.SoundEntries.{IsFittingSum, IsMoves, greatest_total}
 use Rattle.dense_model.specs.declared.row_stage.Transport.{Transport}
 use Rattle.dense_model.specs.declared.row_stage.Edge.{Edge}
 use Rattle.dense_model.specs.declared.row_stage.Ends.{Ends}
@@ -30,7 +30,7 @@ use Rattle.dense_model.specs.RowRun.{edge_at, edge_by, moving_at}
 use Rattle.dense_model.proofs.ProblemFacts.{field_is, got, left_same, over_one, right_same}
 use Rattle.dense_model.proofs.RowFacts.{right-le_self}
 use Rattle.dense_model.proofs.RowSums.{comes_in, edge_amount}
-use Rattle.dense_model.proofs.Built.{size2_is, tests_of}
+use Rattle.dense_model.proofs.Built.{size2_is, size3_is, tests_of}
 
 -- an item of a list that is read number by number
 mapped : {X Y : Type 0} (g : X → Y) (xs : List X) (i : ℕ) (d : X) (e : Y) → i < length xs → slice_index_or (map g xs) i e ≡ g (slice_index_or xs i d)
@@ -54,7 +54,7 @@ pub no_field : Field
 no_field = record { label = []; base = []; id = None; flags = [] }
 
 pub no_moves : Moves
-no_moves = record { v = []; k = 0; entry = [] }
+no_moves = record { v = []; k = 0; order = 0; entry = [] }
 
 -- the number of fields
 pub fields_are : (p : Problem) → length (rules_of (settings_of p)).fields ≡ length p.moves
@@ -73,8 +73,8 @@ rules_at p f inside =
 
 -- the kind of a face of x1
 kind_is : (p : Problem) (high : Bool) → kind_at (rules_of (settings_of p)) 0 high ≡ kind_of (slice_index_or p.faces (side_number 0 high) Outflow)
-kind_is p true = mapped kind_of p.faces 1 Outflow periodic (omega (arith, p.faces_sound.four))
-kind_is p false = mapped kind_of p.faces 0 Outflow periodic (omega (arith, p.faces_sound.four))
+kind_is p true = mapped kind_of p.faces 1 Outflow periodic (omega (arith, p.faces_sound.six))
+kind_is p false = mapped kind_of p.faces 0 Outflow periodic (omega (arith, p.faces_sound.six))
 
 -- what stands outside of a face
 edge_amount_le : (k : ProblemFace) (g : Bool) (dims entry : ℕ) → amount_outside (edge_by (kind_of k) (outside_by (kind_of k) (cond g (entry / 2 ^ (dims * 0)) 0))) ≤ cond (g && is_inflow k) entry 0
@@ -137,9 +137,9 @@ rates-le : (p : Problem) (f : ℕ) → is_built (settings_of p) ≡ true → f <
 rates-le p f built inside =
     let t = tests_of (settings_of p) built in
     let zipped = zip_length p.fields.fields p.moves p.fields_sound.same_length in
-    let all = All-get_or (λ (q : Field × Moves). rate_sum p.shape.dims (p.levels - 1) q.0 q.1 ≤ p.denominator) (zip p.fields.fields p.moves) f (no_field, no_moves) (omega (arith, zipped, inside)) p.rates_fit in
+    let all = All-get_or (λ (q : Field × Moves). IsFittingSum q.1.order (rate_sum p.shape.dims (p.levels - 1) q.0 q.1) p.denominator) (zip p.fields.fields p.moves) f (no_field, no_moves) (omega (arith, zipped, inside)) p.rates_fit in
     let at = zip_at p.fields.fields p.moves f no_field no_moves (omega (arith, inside, p.fields_sound.same_length)) inside in
-    let here = subst (λ (q : Field × Moves). rate_sum p.shape.dims (p.levels - 1) q.0 q.1 ≤ p.denominator) at all in
+    let here = (subst (λ (q : Field × Moves). IsFittingSum q.1.order (rate_sum p.shape.dims (p.levels - 1) q.0 q.1) p.denominator) at all).once in
     let level : p.levels - 1 ≡ 0 = omega (arith, t.levels) in
     let one = subst (λ (l : ℕ). rate_sum p.shape.dims l (field_no p f) (moves_no p f) ≤ p.denominator) level here in
     let axis = subst (λ (d : ℕ). rate_sum d 0 (field_no p f) (moves_no p f) ≤ p.denominator) t.axes one in
@@ -182,7 +182,7 @@ low_face_inflow p f built =
     ∙ ap (λ (k : ℕ). cond (is_inflow (face_no p false)) k 0) (one_behind (entry_no p f false))
   where
     one_behind : (x : ℕ) → x * (get_or p.size 1 0 * get_or p.size 2 0) ≡ x
-    one_behind x = ap (λ (k : ℕ). x * (k * get_or p.size 2 0)) (size2_is p built) ∙ ap (λ (k : ℕ). x * (1 * k)) p.size_sound.one3 ∙ omega arith
+    one_behind x = ap (λ (k : ℕ). x * (k * get_or p.size 2 0)) (size2_is p built) ∙ ap (λ (k : ℕ). x * (1 * k)) (size3_is p built) ∙ omega arith
 
 high_face_inflow : (p : Problem) (f : ℕ) → is_built (settings_of p) ≡ true → face_inflow p.shape.dims p.size p.faces (moves_no p f) 1 ≡ cond (is_inflow (face_no p true)) (entry_no p f true) 0
 high_face_inflow p f built =
@@ -191,12 +191,12 @@ high_face_inflow p f built =
     ∙ ap (λ (k : ℕ). cond (is_inflow (face_no p true)) k 0) (one_behind (entry_no p f true))
   where
     one_behind : (x : ℕ) → x * (get_or p.size 1 0 * get_or p.size 2 0) ≡ x
-    one_behind x = ap (λ (k : ℕ). x * (k * get_or p.size 2 0)) (size2_is p built) ∙ ap (λ (k : ℕ). x * (1 * k)) p.size_sound.one3 ∙ omega arith
+    one_behind x = ap (λ (k : ℕ). x * (k * get_or p.size 2 0)) (size2_is p built) ∙ ap (λ (k : ℕ). x * (1 * k)) (size3_is p built) ∙ omega arith
 
-four_faces : (each : ℕ → ℕ) (n : ℕ) → n ≡ 4 → each 0 + each 1 ≤ sum_by each (range_with_len 0 n)
-four_faces each n e =
-    let four : sum_by each (range_with_len 0 n) ≡ sum_by each (0 ∷ 1 ∷ 2 ∷ 3 ∷ []) = ap (λ (k : ℕ). sum_by each (range_with_len 0 k)) e in
-    omega (arith, four)
+six_faces : (each : ℕ → ℕ) (n : ℕ) → n ≡ 6 → each 0 + each 1 ≤ sum_by each (range_with_len 0 n)
+six_faces each n e =
+    let six : sum_by each (range_with_len 0 n) ≡ sum_by each (0 ∷ 1 ∷ 2 ∷ 3 ∷ 4 ∷ 5 ∷ []) = ap (λ (k : ℕ). sum_by each (range_with_len 0 k)) e in
+    omega (arith, six)
 
 -- two amounts under tests are within the test of both
 both_within : (g w : Bool) (i j : Bool) (a b most : ℕ) → cond i a 0 + cond j b 0 ≤ most → cond w (cond (g && i) a 0) 0 + cond w (cond (g && j) b 0) 0 ≤ cond (g && w) most 0
@@ -243,6 +243,6 @@ comes_in-le p f built inside =
     let w = has WithFluxes (field_no p f).flags in
     let g = has FillGhost (field_no p f).flags in
     let most = sum_by (face_inflow p.shape.dims p.size p.faces (moves_no p f)) (range_with_len 0 (length p.faces)) in
-    let two = four_faces (face_inflow p.shape.dims p.size p.faces (moves_no p f)) (length p.faces) p.faces_sound.four in
+    let two = six_faces (face_inflow p.shape.dims p.size p.faces (moves_no p f)) (length p.faces) p.faces_sound.six in
     let both : cond (is_inflow (face_no p false)) (entry_no p f false) 0 + cond (is_inflow (face_no p true)) (entry_no p f true) 0 ≤ most = omega (arith, two, low_face_inflow p f built, high_face_inflow p f built) in
     omega (arith, low_comes p f built inside, high_comes p f built inside, both_within g w (is_inflow (face_no p false)) (is_inflow (face_no p true)) (entry_no p f false) (entry_no p f true) most both)

@@ -26,7 +26,7 @@ use Rattle.dense_model.proofs.RowMesh.{table_same}
 use Rattle.dense_model.proofs.RowSums.{cell-le, comes_in, sum-staged-le, sum_table, sum_to_both, sum_to_le, sum_to_part, sum_to_same}
 use Rattle.dense_model.proofs.RowRuns.{rows_are, rows_at_next, rows_at_zero, table_at}
 use Rattle.dense_model.proofs.FieldBounds.{comes_in-le, fields_are, no_field, no_moves, proper_at, zip_at, zip_length}
-use Rattle.dense_model.proofs.Built.{size2_is}
+use Rattle.dense_model.proofs.Built.{size2_is, size3_is}
 
 -- the sum of some items of a list
 sum_by_is : {X : Type 0} (g : X → ℕ) (xs : List X) (d : X) (n : ℕ) → n ≤ length xs → sum_by g (take n xs) ≡ sum_to n (λ k. g (slice_index_or xs k d))
@@ -162,7 +162,7 @@ opening_fits p built =
     let n = slice_index p.cells 0 in
     let rows = sum_table fields (λ f. table n (λ place. boxes_part p.boxes f place)) row_sum in
     let each = sum_to_same fields (λ f. row_sum (table n (λ place. boxes_part p.boxes f place))) (λ f. sum_to n (λ place. boxes_part p.boxes f place)) (λ f inside. sum_table n (λ place. boxes_part p.boxes f place) (λ (t : ℕ). t)) in
-    omega (arith, rows, each, boxes_fit p.size fields n (length p.moves) p.boxes (size2_is p built) p.size_sound.one3 (all_boxes p))
+    omega (arith, rows, each, boxes_fit p.size fields n (length p.moves) p.boxes (size2_is p built) (size3_is p built) (all_boxes p))
 
 more_times : (x t : ℕ) → x * suc t ≡ x * t + x
 more_times x t = grind arith

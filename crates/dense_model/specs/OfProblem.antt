@@ -97,10 +97,15 @@ is_plain Adaptive = false
 abbrev pub may_be_absent : Field → Bool
 may_be_absent f = has Sparse f.flags
 
--- what is built so far: one block along one axis that is never refined, no sparse field and no reaction
+-- whether a field moves by the scheme of order 1
+abbrev pub is_first_order : Moves → Bool
+is_first_order m = m.order == 1
+
+-- what is built so far: one block along one axis that is never refined, no sparse field, no reaction and no second order
 abbrev pub is_built : Settings → Bool
 is_built p =
     p.shape.dims == 1 && slice_index p.shape.root 0 == 1
     && is_plain p.mode && p.levels == 1
     && list_all (λ f. not (may_be_absent f)) p.fields.fields
     && length p.reactions == 0
+    && list_all is_first_order p.moves

@@ -3,14 +3,14 @@
 ghost use Rattle.std.specs.Prelude.{◌≡◌, ◌<◌, not, length};
 ghost use Rattle.std.specs.List.{list_all};
 ghost use Rattle.problem_set.specs.SettingsOf.{settings_of};
-ghost use Rattle.dense_model.specs.OfProblem.{is_built, is_plain, may_be_absent, rules_of};
+ghost use Rattle.dense_model.specs.OfProblem.{is_built, is_first_order, is_plain, may_be_absent, rules_of};
 ghost use Rattle.dense_model.specs.Rules.{side_number};
 ghost use Rattle.dense_model.specs.Faces.{field_at, entering_at};
 ghost use Rattle.dense_model.specs.RowRun.{edge_at, moving_at};
 
 use crate::row_stage::{Edge, Ends, Moving, Transport};
 use package_fields::{Flag, Registry};
-use problem_set::{FaceKind, Mode, Problem};
+use problem_set::{FaceKind, Mode, Moves, Problem};
 
 /// The low face of an axis, where a face is asked for by whether it is the high one.
 const LOW: bool = false;
@@ -19,7 +19,7 @@ const LOW: bool = false;
 const HIGH: bool = true;
 
 /// Whether a problem is built so far: one block along one axis that is never refined, with no sparse
-/// field and no reaction.
+/// field, no reaction and no field that moves by the scheme of order 2.
 pub fn is_built(problem: &Problem) -> bool
     ensures { result ≡ is_built (settings_of problem.now) }
 {
@@ -29,6 +29,14 @@ pub fn is_built(problem: &Problem) -> bool
         && problem.levels == 1
         && are_always_there(&problem.fields)
         && problem.reactions.len() == 0
+        && are_of_first_order(problem.moves.as_slice())
+}
+
+/// Whether each field moves by the scheme of order 1.
+fn are_of_first_order(moves: &[Moves]) -> bool
+    ensures { result ≡ list_all is_first_order moves.now }
+{
+    moves.iter().all(|m| m.order == 1)
 }
 
 /// Whether the mesh is of one level and stays as it is.

@@ -1,7 +1,7 @@
 -- Rates and sums.
-use Rattle.std.proofs.Common.{nat_le, ◌⊎◌, inl, inr, ◌≡◌, ◌<◌, ◌≤◌, ◌+◌, ◌*◌, ◌^◌, ◌++◌, ◌∷◌, [], ℕ, zero, suc, Bool, true, false, cond, List, length, slice_get, take, drop, Some, Ok, Err, refl, sym, ap, ◌∙◌, subst, arith, All}
+use Rattle.std.proofs.Common.{nat_le, nat_eq, ◌⊎◌, inl, inr, ◌≡◌, ◌<◌, ◌≤◌, ◌+◌, ◌*◌, ◌^◌, ◌++◌, ◌∷◌, [], ℕ, zero, suc, Bool, true, false, cond, List, length, slice_get, take, drop, Some, Ok, Err, refl, sym, ap, ◌∙◌, subst, arith, All}
 use Rattle.std.specs.List.{sum_by, range_with_len, zip}
-use Rattle.std.proofs.Math.Nat.{mul-le-mul, pow-le-pow_right}
+use Rattle.std.proofs.Math.Nat.{mul-le-mul, mul-le-mul_left, mul_comm, mul_assoc, mul_right_comm, pow-le-pow_right}
 use Rattle.std.proofs.lemmas.List.{drop_all}
 use Rattle.std.proofs.lemmas.List.Sums.{sum_by-append}
 use Rattle.std.proofs.lemmas.List.Elements.{All-head, All-tail, All-cons, All-nil}
@@ -12,13 +12,8 @@ use Rattle.problem_set.specs.declared.entries.Moves.{Moves}
 use Rattle.problem_set.specs.declared.fault.ProblemFault.{ProblemFault}
 use Rattle.problem_set.specs.declared.fault.ProblemFault.TheVariants.{Rates, NoMemory}
 use Rattle.problem_set.specs.Rates.{rate_sum}
-use Rattle.problem_set.specs.Fitting.{rates_fit}
-
-le-to_true : {m n : ℕ} → m ≤ n → nat_le m n ≡ true
-le-to_true {m} {n} h = grind (arith, nat_tests)
-
-lt-to_false : {m n : ℕ} → n < m → nat_le m n ≡ false
-lt-to_false {m} {n} h = grind (arith, nat_tests)
+use Rattle.problem_set.specs.Fitting.{sum_fits, rates_fit}
+use Rattle.problem_set.specs.SoundEntries.{IsFittingSum}
 
 true-to_le : {m n : ℕ} → nat_le m n ≡ true → m ≤ n
 true-to_le {m} {n} h = grind (arith, nat_tests)
@@ -103,24 +98,22 @@ length-zip (x ∷ xs) (y ∷ ys) e = let f : length ys ≡ length xs = omega ari
 pub record FitTo (dims level denominator : ℕ) (fields : List Field) (moves : List Moves) (i : ℕ) : Type 0 where
   pub rest : rates_fit dims level denominator (zip fields moves) ≡ rates_fit dims level denominator (drop i (zip fields moves))
 
-fit_cond : (b : Bool) (dims level denominator : ℕ) (p : Field × Moves) (ps : List (Field × Moves)) → nat_le (rate_sum dims level p.0 p.1) denominator ≡ b → rates_fit dims level denominator (p ∷ ps) ≡ cond b (rates_fit dims level denominator ps) (Err (Rates p.0.label (rate_sum dims level p.0 p.1)))
+fit_cond : (b : Bool) (dims level denominator : ℕ) (p : Field × Moves) (ps : List (Field × Moves)) → sum_fits p.1.order (rate_sum dims level p.0 p.1) denominator ≡ b → rates_fit dims level denominator (p ∷ ps) ≡ cond b (rates_fit dims level denominator ps) (Err (Rates p.0.label (rate_sum dims level p.0 p.1)))
 fit_cond b dims level denominator p ps e = ap (λ (t : Bool). cond t (rates_fit dims level denominator ps) (Err (Rates p.0.label (rate_sum dims level p.0 p.1)))) e
 
 -- one more field fits
-pub fit_more : (dims level denominator : ℕ) (fields : List Field) (moves : List Moves) (i : ℕ) (f : Field) (m : Moves) → FitTo dims level denominator fields moves i → slice_get fields i ≡ Some f → slice_get moves i ≡ Some m → rate_sum dims level f m ≤ denominator → FitTo dims level denominator fields moves (i + 1)
-fit_more dims level denominator fields moves i f m s a b le =
+pub fit_more : (dims level denominator : ℕ) (fields : List Field) (moves : List Moves) (i : ℕ) (f : Field) (m : Moves) → FitTo dims level denominator fields moves i → slice_get fields i ≡ Some f → slice_get moves i ≡ Some m → sum_fits m.order (rate_sum dims level f m) denominator ≡ true → FitTo dims level denominator fields moves (i + 1)
+fit_more dims level denominator fields moves i f m s a b t =
     let q : i + 1 ≡ suc i = omega arith in
-    let t : nat_le (rate_sum dims level f m) denominator ≡ true = le-to_true le in
-    record { rest = s.rest ∙ ap (rates_fit dims level denominator) (drop_get (zip fields moves) i (f, m) (zip_get fields moves i f m a b)) ∙ fit_cond true dims level denominator (f, m) _ t ∙ ap (λ (k : ℕ). rates_fit dims level denominator (drop k (zip fields moves))) (sym q) }
+    record { rest = s.rest ∙ ap (rates_fit dims level denominator) (drop_get (zip fields moves) i (f, m) (zip_get fields moves i f m a b)) ∙ fit_cond true dims level denominator (f, m) (drop (suc i) (zip fields moves)) t ∙ ap (λ (k : ℕ). rates_fit dims level denominator (drop k (zip fields moves))) (sym q) }
 
 -- a field that does not fit is the fault
-pub fit_stop : (dims level denominator : ℕ) (fields : List Field) (moves : List Moves) (i : ℕ) (f : Field) (m : Moves) → FitTo dims level denominator fields moves i → slice_get fields i ≡ Some f → slice_get moves i ≡ Some m → denominator < rate_sum dims level f m → rates_fit dims level denominator (zip fields moves) ≡ Err (Rates f.label (rate_sum dims level f m))
-fit_stop dims level denominator fields moves i f m s a b lt =
-    let t : nat_le (rate_sum dims level f m) denominator ≡ false = lt-to_false lt in
-    s.rest ∙ ap (rates_fit dims level denominator) (drop_get (zip fields moves) i (f, m) (zip_get fields moves i f m a b)) ∙ fit_cond false dims level denominator (f, m) _ t
+pub fit_stop : (dims level denominator : ℕ) (fields : List Field) (moves : List Moves) (i : ℕ) (f : Field) (m : Moves) → FitTo dims level denominator fields moves i → slice_get fields i ≡ Some f → slice_get moves i ≡ Some m → sum_fits m.order (rate_sum dims level f m) denominator ≡ false → rates_fit dims level denominator (zip fields moves) ≡ Err (Rates f.label (rate_sum dims level f m))
+fit_stop dims level denominator fields moves i f m s a b t =
+    s.rest ∙ ap (rates_fit dims level denominator) (drop_get (zip fields moves) i (f, m) (zip_get fields moves i f m a b)) ∙ fit_cond false dims level denominator (f, m) (drop (suc i) (zip fields moves)) t
 
 -- the same of what a test of the field answered
-pub fit_answer : (dims level denominator : ℕ) (fields : List Field) (moves : List Moves) (i : ℕ) (f : Field) (m : Moves) (fault : ProblemFault) → FitTo dims level denominator fields moves i → slice_get fields i ≡ Some f → slice_get moves i ≡ Some m → (fault ≡ NoMemory) ⊎ ((denominator < rate_sum dims level f m) × (fault ≡ Rates f.label (rate_sum dims level f m))) → (fault ≡ NoMemory) ⊎ (rates_fit dims level denominator (zip fields moves) ≡ Err fault)
+pub fit_answer : (dims level denominator : ℕ) (fields : List Field) (moves : List Moves) (i : ℕ) (f : Field) (m : Moves) (fault : ProblemFault) → FitTo dims level denominator fields moves i → slice_get fields i ≡ Some f → slice_get moves i ≡ Some m → (fault ≡ NoMemory) ⊎ ((sum_fits m.order (rate_sum dims level f m) denominator ≡ false) × (fault ≡ Rates f.label (rate_sum dims level f m))) → (fault ≡ NoMemory) ⊎ (rates_fit dims level denominator (zip fields moves) ≡ Err fault)
 fit_answer dims level denominator fields moves i f m fault s a b (inl h) = inl h
 fit_answer dims level denominator fields moves i f m fault s a b (inr h) = inr (fit_stop dims level denominator fields moves i f m s a b h.0 ∙ ap (λ (x : ProblemFault). Err x) (sym h.1))
 
@@ -130,23 +123,50 @@ fit_all dims level denominator fields moves i s e le =
     let l = length-zip fields moves e in
     s.rest ∙ ap (rates_fit dims level denominator) (drop_all i (zip fields moves) (omega arith))
 
-fit_cases : (b : Bool) (dims level denominator : ℕ) (p : Field × Moves) (ps : List (Field × Moves)) → nat_le (rate_sum dims level p.0 p.1) denominator ≡ b → rates_fit dims level denominator (p ∷ ps) ≡ Ok tt → (rates_fit dims level denominator ps ≡ Ok tt → All (λ (q : Field × Moves). rate_sum dims level q.0 q.1 ≤ denominator) ps) → All (λ (q : Field × Moves). rate_sum dims level q.0 q.1 ≤ denominator) (p ∷ ps)
+-- a sum that fits by its test
+fitting_from : (order sum denominator : ℕ) → sum_fits order sum denominator ≡ true → IsFittingSum order sum denominator
+fitting_from order sum denominator t = by (nat_eq order 2) refl t where
+  by : (two : Bool) → nat_eq order 2 ≡ two → cond two (nat_le (3 * sum) (2 * denominator)) (nat_le sum denominator) ≡ true → IsFittingSum order sum denominator
+  by true is h = let le : 3 * sum ≤ 2 * denominator = true-to_le h in record { once = omega arith; second = λ e. le }
+  by false is h = record { once = true-to_le h; second = λ e. let no : ⊥ = grind (arith, nat_tests) in absurd no }
+
+-- what is said of the rates of a field
+abbrev Fits : ℕ → ℕ → ℕ → Field × Moves → Type 0
+Fits dims level denominator p = IsFittingSum p.1.order (rate_sum dims level p.0 p.1) denominator
+
+fit_cases : (b : Bool) (dims level denominator : ℕ) (p : Field × Moves) (ps : List (Field × Moves)) → sum_fits p.1.order (rate_sum dims level p.0 p.1) denominator ≡ b → rates_fit dims level denominator (p ∷ ps) ≡ Ok tt → (rates_fit dims level denominator ps ≡ Ok tt → All (Fits dims level denominator) ps) → All (Fits dims level denominator) (p ∷ ps)
 fit_cases true dims level denominator p ps t e next =
-    let le : rate_sum dims level p.0 p.1 ≤ denominator = true-to_le t in
-    All-cons (λ (q : Field × Moves). rate_sum dims level q.0 q.1 ≤ denominator) p ps le (next (sym (fit_cond true dims level denominator p ps t) ∙ e))
+    All-cons (Fits dims level denominator) p ps (fitting_from p.1.order (rate_sum dims level p.0 p.1) denominator t) (next (sym (fit_cond true dims level denominator p ps t) ∙ e))
 fit_cases false dims level denominator p ps t e next =
     let bad : Err (Rates p.0.label (rate_sum dims level p.0 p.1)) ≡ Ok tt = sym (fit_cond false dims level denominator p ps t) ∙ e in
     let no : ⊥ = cc in absurd no
 
 -- where nothing is found, the rates of all fields fit
-pub fit_means : (dims level denominator : ℕ) (ps : List (Field × Moves)) → rates_fit dims level denominator ps ≡ Ok tt → All (λ (p : Field × Moves). rate_sum dims level p.0 p.1 ≤ denominator) ps
+pub fit_means : (dims level denominator : ℕ) (ps : List (Field × Moves)) → rates_fit dims level denominator ps ≡ Ok tt → All (λ (p : Field × Moves). IsFittingSum p.1.order (rate_sum dims level p.0 p.1) denominator) ps
 fit_means dims level denominator [] e = All-nil _
-fit_means dims level denominator (p ∷ ps) e = fit_cases (nat_le (rate_sum dims level p.0 p.1) denominator) dims level denominator p ps refl e (fit_means dims level denominator ps)
+fit_means dims level denominator (p ∷ ps) e = fit_cases (sum_fits p.1.order (rate_sum dims level p.0 p.1) denominator) dims level denominator p ps refl e (fit_means dims level denominator ps)
 
--- a product of two lengths, one layer and an amount
-pub box_at_most : (a b c d : ℕ) → a ≤ 4194304 → b ≤ 4194304 → c ≤ 1 → d ≤ 4611686018427387903 → a * b * c * d ≤ 2 ^ 106
-box_at_most a b c d ha hb hc hd =
-    let ab : a * b ≤ 4194304 * 4194304 = mul-le-mul ha hb in
-    let abc : a * b * c ≤ 4194304 * 4194304 * 1 = mul-le-mul ab hc in
-    let abcd : a * b * c * d ≤ 4194304 * 4194304 * 1 * 4611686018427387903 = mul-le-mul abc hd in
+-- three lengths within the cells of a mesh, and an amount
+pub box_at_most : (a b c d x y z : ℕ) → a ≤ x → b ≤ y → c ≤ z → x * y * z ≤ 2 ^ 34 → d ≤ 4611686018427387903 → a * b * c * d ≤ 2 ^ 96
+box_at_most a b c d x y z ha hb hc few hd =
+    let ab : a * b ≤ x * y = mul-le-mul ha hb in
+    let abc : a * b * c ≤ x * y * z = mul-le-mul ab hc in
+    let most : a * b * c ≤ 2 ^ 34 = omega (arith, abc, few) in
+    let abcd : a * b * c * d ≤ 2 ^ 34 * 4611686018427387903 = mul-le-mul most hd in
+    omega arith
+
+-- each product of two of three factors is at most the product of all
+pub two_of_three : (a b c n : ℕ) → 1 ≤ a → 1 ≤ b → 1 ≤ c → a * b * c ≤ n → (a * b ≤ n) × (a * c ≤ n) × (b * c ≤ n)
+two_of_three a b c n la lb lc le =
+    let ab : a * b * 1 ≤ a * b * c = mul-le-mul_left (a * b) lc in
+    let ac : a * c * 1 ≤ a * c * b = mul-le-mul_left (a * c) lb in
+    let bc : b * c * 1 ≤ b * c * a = mul-le-mul_left (b * c) la in
+    let acb : a * c * b ≡ a * b * c = mul_right_comm a c b in
+    let bca : b * c * a ≡ a * b * c = mul_comm (b * c) a ∙ sym (mul_assoc a b c) in
+    (omega arith, omega arith, omega arith)
+
+-- an amount for each cell behind a face
+pub face_at_most : (w cells : ℕ) → w ≤ 4611686018427387903 → cells ≤ 2 ^ 34 → w * cells ≤ 2 ^ 96
+face_at_most w cells hw hc =
+    let p : w * cells ≤ 4611686018427387903 * 2 ^ 34 = mul-le-mul hw hc in
     omega arith

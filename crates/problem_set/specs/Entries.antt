@@ -29,7 +29,8 @@ unfoldable pub part : Blocks → List ℕ → Text → Result Part ProblemFault
 part d size block = do
   x1 ← span_at d block (codes "lo1") (codes "hi1") (slice_index size 0)
   x2 ← span_at d block (codes "lo2") (codes "hi2") (slice_index size 1)
-  Ok (record { lo = x1.0 ∷ x2.0 ∷ 0 ∷ []; hi = x1.1 ∷ x2.1 ∷ 0 ∷ [] })
+  x3 ← span_at d block (codes "lo3") (codes "hi3") (slice_index size 2)
+  Ok (record { lo = x1.0 ∷ x2.0 ∷ x3.0 ∷ []; hi = x1.1 ∷ x2.1 ∷ x3.1 ∷ [] })
 
 -- the number of the field with a label
 abbrev pub field_labelled : List Field → Text → Option ℕ

@@ -62,6 +62,10 @@ ids d block f =
 unfoldable pub speed : Blocks → Text → Text → Result ℤ ProblemFault
 speed d block key = signed d block key (is_within 1000000000) (Some (pos 0))
 
+-- the order of the scheme that moves the field
+unfoldable pub order : Blocks → Text → Result ℕ ProblemFault
+order d block = number d block (codes "order") 1 2 (Some 1)
+
 unfoldable pub spread : Blocks → Text → Result ℕ ProblemFault
 spread d block = number d block (codes "k") 0 1000000000 (Some 0)
 
@@ -74,24 +78,32 @@ unfoldable pub speeds : Blocks → Text → Result (List ℤ) ProblemFault
 speeds d block = do
   v1 ← speed d block (codes "v1")
   v2 ← speed d block (codes "v2")
-  Ok (v1 ∷ v2 ∷ pos 0 ∷ [])
+  v3 ← speed d block (codes "v3")
+  Ok (v1 ∷ v2 ∷ v3 ∷ [])
+
+-- the amounts outside of the low and the high face of an axis
+unfoldable pub entry_pair : Blocks → Text → Text → Text → Result (ℕ × ℕ) ProblemFault
+entry_pair d block low high = do
+  l ← entry_amount d block low
+  h ← entry_amount d block high
+  Ok (l, h)
 
 -- the amounts outside of the low and the high face of x1, of x2 and of x3
 unfoldable pub entry_amounts : Blocks → Text → Result (List ℕ) ProblemFault
 entry_amounts d block = do
-  a ← entry_amount d block (codes "ix1_in")
-  b ← entry_amount d block (codes "ox1_in")
-  c ← entry_amount d block (codes "ix2_in")
-  e ← entry_amount d block (codes "ox2_in")
-  Ok (a ∷ b ∷ c ∷ e ∷ 0 ∷ 0 ∷ [])
+  x1 ← entry_pair d block (codes "ix1_in") (codes "ox1_in")
+  x2 ← entry_pair d block (codes "ix2_in") (codes "ox2_in")
+  x3 ← entry_pair d block (codes "ix3_in") (codes "ox3_in")
+  Ok (x1.0 ∷ x1.1 ∷ x2.0 ∷ x2.1 ∷ x3.0 ∷ x3.1 ∷ [])
 
 -- how the field moves
 unfoldable pub moves : Blocks → Text → Result Moves ProblemFault
 moves d block = do
   v ← speeds d block
   k ← spread d block
+  o ← order d block
   a ← entry_amounts d block
-  Ok (record { v = v; k = k; entry = a })
+  Ok (record { v = v; k = k; order = o; entry = a })
 
 -- the flags of a field, and its ids
 unfoldable pub flags_and_ids : Blocks → Text → Text → Result (List Flag × List ℕ) ProblemFault

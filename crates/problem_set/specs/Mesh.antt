@@ -1,5 +1,5 @@
 -- The keys of the mesh: its size, how it is refined, and its faces.
-use Rattle.std.specs.Prelude.{◌==◌, ◌&&◌, nat_le, ℕ, ℤ, pos, negsuc, Bool, true, false, List, [], ◌∷◌, ◌++◌, Option, Some, None, Result, Ok, codes}
+use Rattle.std.specs.Prelude.{◌==◌, ◌&&◌, nat_le, if◌then◌else◌, ℕ, ℤ, pos, negsuc, Bool, true, false, List, [], ◌∷◌, Option, Some, None, Result, Ok, codes}
 use Rattle.input_file.specs.Texts.{Text}
 use Rattle.input_file.specs.Blocks.{Blocks}
 use Rattle.problem_set.specs.declared.words.Mode.{Mode}
@@ -24,8 +24,9 @@ size1 d = number d mesh (codes "nx1") 4 4194304 None
 unfoldable pub size2 : Blocks → Result ℕ ProblemFault
 size2 d = number_or_one d mesh (codes "nx2") 4 4194304 (Some 1)
 
-unfoldable pub size3 : Blocks → Result ℕ ProblemFault
-size3 d = number d mesh (codes "nx3") 1 1 (Some 1)
+-- a mesh with one layer of cells along x2 has one along x3 too
+unfoldable pub size3 : Blocks → ℕ → Result ℕ ProblemFault
+size3 d n2 = if n2 == 1 then number d mesh (codes "nx3") 1 1 (Some 1) else number_or_one d mesh (codes "nx3") 4 4194304 (Some 1)
 
 unfoldable pub refinement : Blocks → Result Mode ProblemFault
 refinement d = value_at mode_named d mesh (codes "refinement") (Some Plain)
@@ -67,18 +68,18 @@ alike false true = false
 alike false false = true
 
 -- the faces of an axis, of which both or neither are periodic
-unfoldable pub face_pair : Blocks → Text → Text → Result (List FaceKind) ProblemFault
+unfoldable pub face_pair : Blocks → Text → Text → Result (FaceKind × FaceKind) ProblemFault
 face_pair d low high = do
   l ← face d low
   h ← face d high
-  only_if (alike (is_periodic l) (is_periodic h)) (l ∷ h ∷ []) (BadValue mesh high)
+  only_if (alike (is_periodic l) (is_periodic h)) (l, h) (BadValue mesh high)
 
 -- the cells of the mesh along each axis
 unfoldable pub size : Blocks → Result (List ℕ) ProblemFault
 size d = do
   n1 ← size1 d
   n2 ← size2 d
-  n3 ← size3 d
+  n3 ← size3 d n2
   Ok (n1 ∷ n2 ∷ n3 ∷ [])
 
 -- how many levels there are: one where nothing is refined
@@ -96,12 +97,13 @@ refining d = do
   pack ← pack_size d
   Ok (record { mode = mode; levels = levels_in mode n; derefine_count = count; pack_size = pack })
 
--- the kinds of the faces of x1 and of x2
+-- the kinds of the faces of x1, of x2 and of x3
 unfoldable pub faces : Blocks → Result (List FaceKind) ProblemFault
 faces d = do
   x1 ← face_pair d (codes "ix1_bc") (codes "ox1_bc")
   x2 ← face_pair d (codes "ix2_bc") (codes "ox2_bc")
-  Ok (x1 ++ x2)
+  x3 ← face_pair d (codes "ix3_bc") (codes "ox3_bc")
+  Ok (x1.0 ∷ x1.1 ∷ x2.0 ∷ x2.1 ∷ x3.0 ∷ x3.1 ∷ [])
 
 -- all keys of the block, in order
 unfoldable pub mesh_keys : Blocks → Result Mesh ProblemFault

@@ -42,6 +42,10 @@ both_rates f m level axis = right_rate f m axis level + left_rate f m axis level
 abbrev pub rate_sum : ℕ → ℕ → Field → Moves → ℕ
 rate_sum dims level f m = sum_by (both_rates f m level) (range_with_len 0 dims)
 
+-- the root cells of the mesh
+abbrev pub cells_of : List ℕ → ℕ
+cells_of size = slice_index size 0 * slice_index size 1 * slice_index size 2
+
 -- the root cells that lie behind a face that is normal to an axis
 abbrev pub face_cells : List ℕ → ℕ → ℕ
 face_cells size zero = slice_index size 1 * slice_index size 2

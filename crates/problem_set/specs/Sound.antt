@@ -1,5 +1,5 @@
 -- What holds of the parts of every problem.
-use Rattle.std.specs.Prelude.{◌≡◌, ◌≤◌, ◌*◌, ◌%◌, ℕ, List, length, slice_index}
+use Rattle.std.specs.Prelude.{◌≡◌, ◌≤◌, ◌<◌, ◌*◌, ◌%◌, ◌^◌, ℕ, List, length, slice_index}
 use Rattle.std.specs.List.{slice_index_or}
 use Rattle.std.specs.Option.{ForSome}
 use Rattle.problem_set.specs.declared.words.FaceKind.{FaceKind}
@@ -12,15 +12,21 @@ use Rattle.morton_order.specs.declared.space.Shape.{Shape}
 use Rattle.morton_order.specs.Space.{IsShape}
 use Rattle.problem_set.specs.Mesh.{is_periodic}
 use Rattle.problem_set.specs.Grid.{dims_of}
+use Rattle.problem_set.specs.Rates.{cells_of}
+use Rattle.problem_set.specs.SoundEntries.{greatest_total}
 
--- the cells of a mesh along each axis
+-- the cells of a mesh along each axis: 4 to 4,194,304, or 1 along x2 and x3; 1 along x3 where it is 1 along x2
 pub record IsSize (size : List ℕ) : Type 0 where
   pub three : length size ≡ 3
   pub least1 : 4 ≤ slice_index size 0
   pub most1 : slice_index size 0 ≤ 4194304
   pub least2 : 1 ≤ slice_index size 1
+  pub used2 : 2 ≤ slice_index size 1 → 4 ≤ slice_index size 1
   pub most2 : slice_index size 1 ≤ 4194304
-  pub one3 : slice_index size 2 ≡ 1
+  pub least3 : 1 ≤ slice_index size 2
+  pub used3 : 2 ≤ slice_index size 2 → 4 ≤ slice_index size 2
+  pub most3 : slice_index size 2 ≤ 4194304
+  pub flat3 : slice_index size 1 ≡ 1 → slice_index size 2 ≡ 1
 
 -- the numbers that say how a mesh is refined
 pub record IsRefining (r : Refining) : Type 0 where
@@ -31,17 +37,22 @@ pub record IsRefining (r : Refining) : Type 0 where
   pub least_pack : ForSome r.pack_size (λ n. 1 ≤ n)
   pub most_pack : ForSome r.pack_size (λ n. n ≤ 65536)
 
--- the low and the high face of x1 and of x2; of an axis both or neither are periodic
+-- the low and the high face of x1, of x2 and of x3; of an axis both or neither are periodic
 pub record IsFaces (faces : List FaceKind) : Type 0 where
-  pub four : length faces ≡ 4
+  pub six : length faces ≡ 6
   pub alike1 : is_periodic (slice_index_or faces 0 Periodic) ≡ is_periodic (slice_index_or faces 1 Periodic)
   pub alike2 : is_periodic (slice_index_or faces 2 Periodic) ≡ is_periodic (slice_index_or faces 3 Periodic)
+  pub alike3 : is_periodic (slice_index_or faces 4 Periodic) ≡ is_periodic (slice_index_or faces 5 Periodic)
 
--- the cells of a block along an axis: 1 to 64 of them, a divisor of the cells of the mesh
+-- the cells of a block along an axis: a divisor of the cells of the mesh; an even number from 4 to 64
+-- where the mesh has more than one layer of cells
 pub record IsCellsAlong (size cells : ℕ) : Type 0 where
   pub least : 1 ≤ cells
   pub most : cells ≤ 64
   pub divides : size % cells ≡ 0
+  pub wide : 2 ≤ size → 4 ≤ cells
+  pub even : 2 ≤ size → cells % 2 ≡ 0
+  pub thin : size ≡ 1 → cells ≡ 1
 
 -- the cells of a block along each axis
 pub record IsCells (size cells : List ℕ) : Type 0 where
@@ -50,7 +61,8 @@ pub record IsCells (size cells : List ℕ) : Type 0 where
   pub along2 : IsCellsAlong (slice_index size 1) (slice_index cells 1)
   pub along3 : IsCellsAlong (slice_index size 2) (slice_index cells 2)
 
--- the root blocks cover the mesh, and there are at most 65,536 of them
+-- the root blocks cover the mesh, and there are at most 65,536 of them, so of at most 2^34 cells; along each axis
+-- in use a block has an even number of cells, at least 4, and along every other axis one layer of them
 pub record IsGrid (size cells : List ℕ) (shape : Shape) : Type 0 where
   pub cells_sound : IsCells size cells
   pub shape_sound : IsShape shape
@@ -59,11 +71,15 @@ pub record IsGrid (size cells : List ℕ) (shape : Shape) : Type 0 where
   pub covers2 : slice_index shape.root 1 * slice_index cells 1 ≡ slice_index size 1
   pub covers3 : slice_index shape.root 2 * slice_index cells 2 ≡ slice_index size 2
   pub few : slice_index shape.root 0 * slice_index shape.root 1 * slice_index shape.root 2 ≤ 65536
+  pub few_cells : cells_of size ≤ 2 ^ 34
+  pub wide : (axis : ℕ) → axis < shape.dims → 4 ≤ slice_index cells axis
+  pub even : (axis : ℕ) → axis < shape.dims → slice_index cells axis % 2 ≡ 0
+  pub flat : (axis : ℕ) → shape.dims ≤ axis → axis < 3 → slice_index cells axis ≡ 1
 
--- when sparse fields are allocated and freed: both thresholds are 0
+-- when sparse fields are allocated and freed
 pub record IsSparsity (s : Sparsity) : Type 0 where
-  pub alloc_zero : s.alloc_threshold ≤ 0
-  pub dealloc_zero : s.dealloc_threshold ≤ 0
+  pub most_alloc : s.alloc_threshold ≤ greatest_total
+  pub most_dealloc : s.dealloc_threshold ≤ greatest_total
   pub least_count : 1 ≤ s.dealloc_count
   pub most_count : s.dealloc_count ≤ 65535
 

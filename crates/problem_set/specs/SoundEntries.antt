@@ -1,5 +1,5 @@
 -- What holds of the blocks of a problem that come in any number.
-use Rattle.std.specs.Prelude.{◌≡◌, ◌≢◌, ◌≤◌, ◌<◌, ◌-◌, ℕ, ℤ, pos, List, length, slice_index, All, unsigned_abs}
+use Rattle.std.specs.Prelude.{◌≡◌, ◌≢◌, ◌≤◌, ◌<◌, ◌-◌, ◌*◌, ℕ, ℤ, pos, List, length, slice_index, All, unsigned_abs}
 use Rattle.std.specs.List.{slice_index_or, zip}
 use Rattle.package_fields.specs.Fields.{Registered, IsSound}
 use Rattle.package_fields.specs.declared.field.Field.{Field}
@@ -22,11 +22,14 @@ pub record IsSlow (v : List ℤ) : Type 0 where
   pub speed2 : unsigned_abs (slice_index_or v 1 (pos 0)) ≤ 1000000000
   pub speed3 : unsigned_abs (slice_index_or v 2 (pos 0)) ≤ 1000000000
 
--- how a field moves: velocities and coefficients of at most a milliard, amounts of at most the greatest total
+-- how a field moves: velocities and coefficients of at most a milliard, by a scheme of order 1 or 2, amounts of
+-- at most the greatest total
 pub record IsMoves (m : Moves) : Type 0 where
   pub slow : IsSlow m.v
   pub six : length m.entry ≡ 6
   pub spread : m.k ≤ 1000000000
+  pub least_order : 1 ≤ m.order
+  pub most_order : m.order ≤ 2
   pub amounts : All (λ amount. amount ≤ greatest_total) m.entry
 
 -- a part of the mesh lies in it along an axis
@@ -83,10 +86,15 @@ pub record AreEntries (size : List ℕ) (levels fields : ℕ) (statics : List St
   pub reactions_sound : All (IsReaction fields) reactions
   pub criteria_sound : All (IsCriterion levels fields) criteria
 
--- the rates of no field at the finest level add up to more than the denominator
+-- rates with a sum of at most the denominator; three halves of it by a scheme of order 2
+pub record IsFittingSum (order sum denominator : ℕ) : Type 0 where
+  pub once : sum ≤ denominator
+  pub second : order ≡ 2 → 3 * sum ≤ 2 * denominator
+
+-- the rates of each field at the finest level leave every total at least 0
 abbrev pub HaveFittingRates : ℕ → ℕ → ℕ → List Field → List Moves → Type 0
 HaveFittingRates dims levels denominator fields moves =
-    All (λ (p : Field × Moves). rate_sum dims (levels - 1) p.0 p.1 ≤ denominator) (zip fields moves)
+    All (λ (p : Field × Moves). IsFittingSum p.1.order (rate_sum dims (levels - 1) p.0 p.1) denominator) (zip fields moves)
 
 -- the opening sum and all that may come in keep within the greatest total
 abbrev pub HasBound : ℕ → List ℕ → List FaceKind → ℕ → ℕ → List Field → List Moves → List StartBox → Type 0

@@ -8,6 +8,7 @@ use Rattle.problem_set.specs.declared.stepping.Pace.{Pace}
 use Rattle.problem_set.specs.declared.stepping.Stepping.{Stepping}
 use Rattle.problem_set.specs.Reading.{◌>>=◌}
 use Rattle.problem_set.specs.Rows.{number}
+use Rattle.problem_set.specs.SoundEntries.{greatest_total}
 
 -- the names of the blocks
 unfoldable pub time : Text
@@ -23,10 +24,10 @@ unfoldable pub nlim : Blocks → Result ℕ ProblemFault
 nlim d = number d time (codes "nlim") 0 65535 None
 
 unfoldable pub alloc_threshold : Blocks → Result ℕ ProblemFault
-alloc_threshold d = number d sparse (codes "alloc_threshold") 0 0 (Some 0)
+alloc_threshold d = number d sparse (codes "alloc_threshold") 0 greatest_total (Some 0)
 
 unfoldable pub dealloc_threshold : Blocks → Result ℕ ProblemFault
-dealloc_threshold d = number d sparse (codes "dealloc_threshold") 0 0 (Some 0)
+dealloc_threshold d = number d sparse (codes "dealloc_threshold") 0 greatest_total (Some 0)
 
 unfoldable pub dealloc_count : Blocks → Result ℕ ProblemFault
 dealloc_count d = number d sparse (codes "dealloc_count") 1 65535 (Some 5)

@@ -9,6 +9,8 @@ pub struct Moves {
     pub v: [i64; 3],
     /// The diffusion coefficient.
     pub k: u64,
+    /// The order of the scheme, 1 or 2.
+    pub order: u32,
     /// The amount outside of the low and the high face of x1, of x2 and of x3, in this order.
     pub entry: [u64; 6],
 }

@@ -3,8 +3,8 @@
 ghost use Rattle.std.specs.Prelude.{◌≡◌, ◌≤◌, IfOk, All, Ok, length, unsigned_abs};
 ghost use Rattle.std.specs.Option.{option_copied};
 ghost use Rattle.problem_set.specs.Reading.{Gives};
-ghost use Rattle.problem_set.specs.FieldBlocks.{behind_field, field_name, default_flags, owner, flags, ids, flags_and_ids, speed, spread, entry_amount};
-ghost use Rattle.problem_set.specs.FieldBlocks.{speeds, entry_amounts, moves, field_block};
+ghost use Rattle.problem_set.specs.FieldBlocks.{behind_field, field_name, default_flags, owner, flags, ids, flags_and_ids, speed, spread, order, entry_amount};
+ghost use Rattle.problem_set.specs.FieldBlocks.{speeds, entry_pair, entry_amounts, moves, field_block};
 ghost use Rattle.problem_set.specs.SoundEntries.{IsMoves, IsSlow, greatest_total};
 
 use crate::entries::Moves;
@@ -161,8 +161,9 @@ fn read_moves(block: &BlockReader) -> Result<Moves, ProblemFault>
 {
     let v = read_speeds(block)?;
     let k = read_spread(block)?;
+    let order = read_order(block)?;
     let entry = read_entry_amounts(block)?;
-    Ok(Moves { v, k, entry })
+    Ok(Moves { v, k, order, entry })
 }
 
 #[tactic(auto, unfolding(crate::specs::FieldBlocks::speeds))]
@@ -172,7 +173,8 @@ fn read_speeds(block: &BlockReader) -> Result<[i64; 3], ProblemFault>
 {
     let v1 = read_speed(block, "v1")?;
     let v2 = read_speed(block, "v2")?;
-    Ok([v1, v2, 0])
+    let v3 = read_speed(block, "v3")?;
+    Ok([v1, v2, v3])
 }
 
 #[tactic(auto, unfolding(crate::specs::FieldBlocks::speed, crate::specs::Rows::signed))]
@@ -196,16 +198,38 @@ fn read_spread(block: &BlockReader) -> Result<u64, ProblemFault>
     block.number("k", 0, 1_000_000_000, Some(0))
 }
 
+/// The order of the scheme that moves the field.
+#[tactic(auto, unfolding(crate::specs::FieldBlocks::order))]
+fn read_order(block: &BlockReader) -> Result<u32, ProblemFault>
+    ensures value { Gives result (order block.now.deck.now block.now.block.now) }
+    ensures least { IfOk result (λ n. 1 ≤ n) }
+    ensures most { IfOk result (λ n. n ≤ 2) }
+{
+    let n = block.number("order", 1, 2, Some(1))?;
+    Ok(n as u32)
+}
+
 #[tactic(auto, unfolding(crate::specs::FieldBlocks::entry_amounts))]
 fn read_entry_amounts(block: &BlockReader) -> Result<[u64; 6], ProblemFault>
     ensures value { Gives result (entry_amounts block.now.deck.now block.now.block.now) }
     ensures most { IfOk result (λ entry. (length entry ≡ 6) × All (λ amount. amount ≤ greatest_total) entry) }
 {
-    let low1 = read_entry_amount(block, "ix1_in")?;
-    let high1 = read_entry_amount(block, "ox1_in")?;
-    let low2 = read_entry_amount(block, "ix2_in")?;
-    let high2 = read_entry_amount(block, "ox2_in")?;
-    Ok([low1, high1, low2, high2, 0, 0])
+    let (low1, high1) = read_entry_pair(block, "ix1_in", "ox1_in")?;
+    let (low2, high2) = read_entry_pair(block, "ix2_in", "ox2_in")?;
+    let (low3, high3) = read_entry_pair(block, "ix3_in", "ox3_in")?;
+    Ok([low1, high1, low2, high2, low3, high3])
+}
+
+/// The amounts outside of the low and the high face of an axis.
+#[tactic(auto, unfolding(crate::specs::FieldBlocks::entry_pair))]
+fn read_entry_pair(block: &BlockReader, low: &str, high: &str) -> Result<(u64, u64), ProblemFault>
+    ensures value { Gives result (entry_pair block.now.deck.now block.now.block.now low.now high.now) }
+    ensures low_most { IfOk result (λ pair. pair.0 ≤ greatest_total) }
+    ensures high_most { IfOk result (λ pair. pair.1 ≤ greatest_total) }
+{
+    let l = read_entry_amount(block, low)?;
+    let h = read_entry_amount(block, high)?;
+    Ok((l, h))
 }
 
 /// The amount outside of a face.

@@ -2,7 +2,7 @@
 
 ghost use Rattle.std.specs.Prelude.{◌≡◌, ◌≤◌, ◌<◌, ◌*◌, ◌^◌, Some, length, slice_get, slice_index, All, sum_by};
 ghost use Rattle.std.specs.List.{slice_index_or, range_with_len};
-ghost use Rattle.problem_set.specs.Rates.{face_cells, is_inflow, face_inflow, field_inflow, stage_inflow, span, box_total};
+ghost use Rattle.problem_set.specs.Rates.{cells_of, face_cells, is_inflow, face_inflow, field_inflow, stage_inflow, span, box_total};
 ghost use Rattle.problem_set.specs.Sound.{IsSize, IsFaces};
 ghost use Rattle.problem_set.specs.SoundEntries.{IsMoves, IsBox};
 
@@ -27,9 +27,10 @@ fn span(lo: [u32; 3], hi: [u32; 3], axis: u32) -> u128
 /// What a box puts into all its cells.
 fn box_total(size: [u32; 3], start: &StartBox, fields: usize) -> u128
     requires size { IsSize size }
+    requires few { cells_of size ≤ 2 ^ 34 }
     requires sound { IsBox size fields start.now }
     ensures value { result ≡ box_total start.now }
-    ensures most { result ≤ 2 ^ 106 }
+    ensures most { result ≤ 2 ^ 96 }
 {
     let (lo, hi) = (start.lo, start.hi);
     let cells = span(lo, hi, 0) * span(lo, hi, 1) * span(lo, hi, 2);
@@ -39,10 +40,11 @@ fn box_total(size: [u32; 3], start: &StartBox, fields: usize) -> u128
 /// What all boxes put into their cells.
 pub fn boxes_total(size: [u32; 3], boxes: &[StartBox], fields: usize) -> u128
     requires size { IsSize size }
+    requires few_cells { cells_of size ≤ 2 ^ 34 }
     requires few { length boxes.now ≤ 4096 }
     requires sound { All (IsBox size fields) boxes.now }
     ensures value { result ≡ sum_by box_total boxes.now }
-    ensures most { result ≤ 2 ^ 118 }
+    ensures most { result ≤ 2 ^ 108 }
 {
     let mut sum = 0;
     for i in 0..boxes.len() {
@@ -62,25 +64,28 @@ fn box_at(boxes: &[StartBox], i: usize) -> &StartBox
 /// The root cells behind a face that is normal to an axis.
 fn face_cells(size: [u32; 3], axis: u32) -> u128
     requires size { IsSize size }
-    requires axis { axis < 2 }
+    requires few { cells_of size ≤ 2 ^ 34 }
+    requires axis { axis < 3 }
     ensures value { result ≡ face_cells size axis }
-    ensures most { result ≤ 4194304 }
+    ensures most { result ≤ 2 ^ 34 }
 {
-    if axis == 0 {
-        u128::from(size[1]) * u128::from(size[2])
-    } else {
-        u128::from(size[0]) * u128::from(size[2])
-    }
+    let (across, along) = match axis {
+        0 => (size[1], size[2]),
+        1 => (size[0], size[2]),
+        _ => (size[0], size[1]),
+    };
+    u128::from(across) * u128::from(along)
 }
 
 /// What may come in through a face in a stage.
 fn face_inflow(dims: u32, size: [u32; 3], faces: &Faces, moves: &Moves, i: u32) -> u128
     requires size { IsSize size }
+    requires few { cells_of size ≤ 2 ^ 34 }
     requires faces { IsFaces faces.now }
     requires moves { IsMoves moves.now }
-    requires face { i < 4 }
+    requires face { i < 6 }
     ensures value { result ≡ face_inflow dims size faces.now moves.now i }
-    ensures most { result ≤ 2 ^ 84 }
+    ensures most { result ≤ 2 ^ 96 }
 {
     if i / 2 < dims && is_inflow_at(faces, i) {
         u128::from(moves.entry[i as usize]) * face_cells(size, i / 2)
@@ -101,10 +106,11 @@ fn is_inflow_at(faces: &Faces, i: u32) -> bool
 #[tactic(auto, using(crate::proofs::RateLemmas::sum_range_more))]
 fn field_inflow(dims: u32, size: [u32; 3], faces: &Faces, field: &Field, moves: Moves) -> u128
     requires size { IsSize size }
+    requires few { cells_of size ≤ 2 ^ 34 }
     requires faces { IsFaces faces.now }
     requires moves { IsMoves moves }
     ensures value { result ≡ field_inflow dims size faces.now field.now moves }
-    ensures most { result ≤ 2 ^ 86 }
+    ensures most { result ≤ 2 ^ 99 }
 {
     let flags = field.flags.as_slice();
     if has_flag(flags, Flag::FillGhost) && has_flag(flags, Flag::WithFluxes) {
@@ -118,10 +124,11 @@ fn field_inflow(dims: u32, size: [u32; 3], faces: &Faces, field: &Field, moves: 
 #[tactic(auto, using(crate::proofs::RateLemmas::sum_range_more))]
 fn faces_inflow(dims: u32, size: [u32; 3], faces: &Faces, moves: &Moves) -> u128
     requires size { IsSize size }
+    requires few { cells_of size ≤ 2 ^ 34 }
     requires faces { IsFaces faces.now }
     requires moves { IsMoves moves.now }
     ensures value { result ≡ sum_by (face_inflow dims size faces.now moves.now) (range_with_len 0 (length faces.now)) }
-    ensures most { result ≤ 2 ^ 86 }
+    ensures most { result ≤ 2 ^ 99 }
 {
     let mut sum = 0;
     for i in 0..faces.len() {
@@ -139,12 +146,13 @@ pub fn stage_inflow(
     moves: &[Moves],
 ) -> u128
     requires size { IsSize size }
+    requires few_cells { cells_of size ≤ 2 ^ 34 }
     requires faces { IsFaces faces.now }
     requires few { length fields.now ≤ 256 }
     requires as_many { length moves.now ≡ length fields.now }
     requires moves { All IsMoves moves.now }
     ensures value { result ≡ stage_inflow dims size faces.now fields.now moves.now }
-    ensures most { result ≤ 2 ^ 94 }
+    ensures most { result ≤ 2 ^ 107 }
 {
     let mut sum = 0;
     for i in 0..fields.len() {

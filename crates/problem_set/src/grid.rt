@@ -1,6 +1,6 @@
 //! The keys of the blocks of the mesh, and the lattice of root blocks that follows.
 
-ghost use Rattle.std.specs.Prelude.{◌≡◌, ◌≤◌, ◌*◌, IfOk};
+ghost use Rattle.std.specs.Prelude.{◌≡◌, ◌≤◌, ◌/◌, IfOk};
 ghost use Rattle.problem_set.specs.Reading.{Gives};
 ghost use Rattle.problem_set.specs.Grid.{meshblock as meshblock_name, cells_along, cells_or_one, cells, grid, dims_of, shape_of, root_blocks};
 ghost use Rattle.problem_set.specs.Mesh.{is_periodic};
@@ -75,6 +75,7 @@ fn read_cells(meshblock: &BlockReader, size: [u32; 3]) -> Result<[u32; 3], Probl
 #[tactic(auto, unfolding(crate::specs::Grid::cells_along))]
 fn read_cells_along(meshblock: &BlockReader, key: &str, size: u32) -> Result<u32, ProblemFault>
     requires block { meshblock.now.block.now ≡ meshblock_name }
+    requires used { 2 ≤ size }
     ensures value { Gives result (cells_along meshblock.now.deck.now key.now size) }
     ensures sound { IfOk result (IsCellsAlong size) }
 {
@@ -89,6 +90,7 @@ fn read_cells_along(meshblock: &BlockReader, key: &str, size: u32) -> Result<u32
 #[tactic(auto, unfolding(crate::specs::Grid::cells_or_one))]
 fn read_cells_or_one(meshblock: &BlockReader, key: &str, size: u32) -> Result<u32, ProblemFault>
     requires block { meshblock.now.block.now ≡ meshblock_name }
+    requires some { 1 ≤ size }
     ensures value { Gives result (cells_or_one meshblock.now.deck.now key.now size) }
     ensures sound { IfOk result (IsCellsAlong size) }
 {
@@ -106,7 +108,17 @@ fn root_blocks(size: [u32; 3], cells: [u32; 3]) -> u64
     requires cells { IsCells size cells }
     ensures { result ≡ root_blocks size cells }
 {
-    u64::from(size[0] / cells[0]) * u64::from(size[1] / cells[1]) * u64::from(size[2] / cells[2])
+    roots_along(size[0], cells[0]) * roots_along(size[1], cells[1]) * roots_along(size[2], cells[2])
+}
+
+/// How many root blocks lie along an axis.
+fn roots_along(size: u32, cells: u32) -> u64
+    requires most { size ≤ 4194304 }
+    requires cells { IsCellsAlong size cells }
+    ensures value { result ≡ size / cells }
+    ensures few { result ≤ 1048576 }
+{
+    u64::from(size / cells)
 }
 
 /// The lattice of the root blocks.

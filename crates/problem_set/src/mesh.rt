@@ -1,7 +1,7 @@
 //! The keys of the mesh: its size, how it is refined, and its faces.
 
-ghost use Rattle.std.specs.Prelude.{◌≡◌, ◌≤◌, [], ◌∷◌, IfOk, IfSome};
-ghost use Rattle.problem_set.specs.Reading.{Answers, Gives};
+ghost use Rattle.std.specs.Prelude.{◌≡◌, ◌≤◌, [], ◌∷◌, IfOk, IfSome, Ok};
+ghost use Rattle.problem_set.specs.Reading.{Gives};
 ghost use Rattle.problem_set.specs.Mesh.{mesh as mesh_block, size1, size2, size3};
 ghost use Rattle.problem_set.specs.Mesh.{refinement, numlevel};
 ghost use Rattle.problem_set.specs.Mesh.{derefine_count, pack_size};
@@ -72,7 +72,7 @@ fn read_size(mesh: &BlockReader) -> Result<[u32; 3], ProblemFault>
 {
     let n1 = read_size1(mesh)?;
     let n2 = read_size2(mesh)?;
-    let n3 = read_size3(mesh)?;
+    let n3 = read_size3(mesh, n2)?;
     Ok([n1, n2, n3])
 }
 
@@ -92,6 +92,7 @@ fn read_size2(mesh: &BlockReader) -> Result<u32, ProblemFault>
     requires { mesh.now.block.now ≡ mesh_block }
     ensures value { Gives result (size2 mesh.now.deck.now) }
     ensures least { IfOk result (λ n. 1 ≤ n) }
+    ensures used { IfOk result (λ n. 2 ≤ n → 4 ≤ n) }
     ensures greatest { IfOk result (λ n. n ≤ 4194304) }
 {
     let n = mesh.number_or_one("nx2", 4, 4_194_304, Some(1))?;
@@ -99,13 +100,21 @@ fn read_size2(mesh: &BlockReader) -> Result<u32, ProblemFault>
 }
 
 #[tactic(auto, unfolding(crate::specs::Mesh::size3))]
-fn read_size3(mesh: &BlockReader) -> Result<u32, ProblemFault>
+fn read_size3(mesh: &BlockReader, n2: u32) -> Result<u32, ProblemFault>
     requires { mesh.now.block.now ≡ mesh_block }
-    ensures value { Gives result (size3 mesh.now.deck.now) }
-    ensures one { IfOk result (λ n. n ≡ 1) }
+    ensures value { Gives result (size3 mesh.now.deck.now n2) }
+    ensures least { IfOk result (λ n. 1 ≤ n) }
+    ensures used { IfOk result (λ n. 2 ≤ n → 4 ≤ n) }
+    ensures greatest { IfOk result (λ n. n ≤ 4194304) }
+    ensures flat { IfOk result (λ n. n2 ≡ 1 → n ≡ 1) }
 {
-    let n = mesh.number("nx3", 1, 1, Some(1))?;
-    Ok(n as u32)
+    if n2 == 1 {
+        let n = mesh.number("nx3", 1, 1, Some(1))?;
+        Ok(n as u32)
+    } else {
+        let n = mesh.number_or_one("nx3", 4, 4_194_304, Some(1))?;
+        Ok(n as u32)
+    }
 }
 
 #[tactic(auto, unfolding(crate::specs::Mesh::refining))]
@@ -193,9 +202,22 @@ fn read_faces(mesh: &BlockReader) -> Result<Faces, ProblemFault>
     ensures value { Gives result (faces mesh.now.deck.now) }
     ensures sound { IfOk result IsFaces }
 {
-    let (low1, high1) = read_face_pair(mesh, "ix1_bc", "ox1_bc")?;
-    let (low2, high2) = read_face_pair(mesh, "ix2_bc", "ox2_bc")?;
-    let kinds = vec![in mesh.alloc; low1, high1, low2, high2]?;
+    let x1 = read_face_pair(mesh, "ix1_bc", "ox1_bc")?;
+    let x2 = read_face_pair(mesh, "ix2_bc", "ox2_bc")?;
+    let x3 = read_face_pair(mesh, "ix3_bc", "ox3_bc")?;
+    faces_of(mesh.alloc, x1, x2, x3)
+}
+
+/// The faces of three axes.
+fn faces_of(
+    alloc: Global,
+    x1: (FaceKind, FaceKind),
+    x2: (FaceKind, FaceKind),
+    x3: (FaceKind, FaceKind),
+) -> Result<Faces, ProblemFault>
+    ensures { Gives result (Ok (x1.0 ∷ x1.1 ∷ x2.0 ∷ x2.1 ∷ x3.0 ∷ x3.1 ∷ [])) }
+{
+    let kinds = vec![in alloc; x1.0, x1.1, x2.0, x2.1, x3.0, x3.1]?;
     Ok(Items::from_vec(kinds))
 }
 
@@ -206,7 +228,7 @@ fn read_face_pair(
     high: &str,
 ) -> Result<(FaceKind, FaceKind), ProblemFault>
     requires { mesh.now.block.now ≡ mesh_block }
-    ensures value { Answers (λ pair. pair.0 ∷ pair.1 ∷ []) result (face_pair mesh.now.deck.now low.now high.now) }
+    ensures value { Gives result (face_pair mesh.now.deck.now low.now high.now) }
     ensures alike { IfOk result (λ pair. is_periodic pair.0 ≡ is_periodic pair.1) }
 {
     let l = read_face(mesh, low)?;

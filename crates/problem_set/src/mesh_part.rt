@@ -30,9 +30,10 @@ impl<'a> BlockReader<'a> {
     {
         let (low1, high1) = self.span("lo1", "hi1", size[0])?;
         let (low2, high2) = self.span("lo2", "hi2", size[1])?;
+        let (low3, high3) = self.span("lo3", "hi3", size[2])?;
         Ok(Part {
-            lo: [low1, low2, 0],
-            hi: [high1, high2, 0],
+            lo: [low1, low2, low3],
+            hi: [high1, high2, high3],
         })
     }
 

@@ -12,7 +12,7 @@ use package_fields::{Flag, Items, Registry};
 /// What a run is of: the mesh, the fields, and how they are advanced.
 ///
 /// Lists by axis are in the order x1, x2, x3, those by face in the order of the low and the high face
-/// of x1 and of x2. Fields are named by their numbers in the registry.
+/// of x1, of x2 and of x3. Fields are named by their numbers in the registry.
 #[derive(Drop)]
 pub struct Problem {
     /// The lattice of root blocks.
@@ -33,9 +33,9 @@ pub struct Problem {
     pub faces: Faces,
     /// The cycles of the run.
     pub nlim: u32,
-    /// A total above this, which is 0, has a sparse field stored on a block.
+    /// A total above this has a sparse field stored on a block.
     pub alloc_threshold: u64,
-    /// A sparse field with no total above this, which is 0, is idle on a block.
+    /// A sparse field with no total above this is idle on a block.
     pub dealloc_threshold: u64,
     /// After how many idle checks in a row a sparse field is freed.
     pub dealloc_count: u32,

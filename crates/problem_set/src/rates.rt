@@ -1,12 +1,12 @@
 //! The rates of a field, and what they add up to.
 
-ghost use Rattle.std.specs.Prelude.{◌≡◌, ◌≤◌, ◌<◌, ◌⊎◌, Some, OnOk, IfErr, length, slice_get, All, unsigned_abs};
+ghost use Rattle.std.specs.Prelude.{◌≡◌, ◌≤◌, ◌<◌, ◌⊎◌, true, false, Some, OnOk, IfErr, length, slice_get, All, unsigned_abs};
 ghost use Rattle.std.specs.List.{zip};
 ghost use Rattle.mesh_num.specs.Rate.{rate as rate_of};
 ghost use Rattle.problem_set.specs.Reading.{Gives};
 ghost use Rattle.problem_set.specs.declared.fault.ProblemFault.TheVariants.{NoMemory as no_memory};
 ghost use Rattle.problem_set.specs.Rates.{upwards, downwards, velocity, right_rate, left_rate, rate_sum};
-ghost use Rattle.problem_set.specs.Fitting.{rates_fit};
+ghost use Rattle.problem_set.specs.Fitting.{sum_fits, rates_fit};
 ghost use Rattle.problem_set.specs.SoundEntries.{IsMoves};
 
 use crate::entries::Moves;
@@ -83,7 +83,8 @@ fn rate_sum(dims: u32, level: u32, field: &Field, moves: &Moves) -> u64
     requires dims { dims ≤ 3 }
     requires level { level ≤ 10 }
     requires sound { IsMoves moves.now }
-    ensures { result ≡ rate_sum dims level field.now moves.now }
+    ensures value { result ≡ rate_sum dims level field.now moves.now }
+    ensures most { result ≤ 12000000000000000 }
 {
     let mut sum = 0;
     for axis in 0..dims {
@@ -109,7 +110,21 @@ pub fn moves_at(moves: &[Moves], i: usize) -> Moves
     moves[i]
 }
 
-/// Whether the rates of each field at a level add up to at most the denominator.
+/// Whether rates of this sum leave every total at least 0. By a scheme of order 2 a cell may count for
+/// half as much again as it holds.
+fn sum_fits(order: u32, sum: u64, denominator: u64) -> bool
+    requires sum { sum ≤ 12000000000000000 }
+    requires denominator { denominator ≤ 1000000000 }
+    ensures { result ≡ sum_fits order sum denominator }
+{
+    if order == 2 {
+        3 * sum <= 2 * denominator
+    } else {
+        sum <= denominator
+    }
+}
+
+/// Whether the rates of each field at a level leave every total at least 0.
 pub fn check_rates(
     alloc: Global,
     dims: u32,
@@ -120,6 +135,7 @@ pub fn check_rates(
 ) -> Result<(), ProblemFault>
     requires dims { dims ≤ 3 }
     requires level { level ≤ 10 }
+    requires denominator { denominator ≤ 1000000000 }
     requires as_many { length moves.now ≡ length fields.now }
     requires sound { All IsMoves moves.now }
     ensures { Gives result (rates_fit dims level denominator (zip fields.now moves.now)) }
@@ -137,7 +153,7 @@ pub fn check_rates(
     Ok(())
 }
 
-/// Whether the rates of a field at a level add up to at most the denominator.
+/// Whether the rates of a field at a level leave every total at least 0.
 fn check_field(
     alloc: Global,
     dims: u32,
@@ -148,12 +164,13 @@ fn check_field(
 ) -> Result<(), ProblemFault>
     requires dims { dims ≤ 3 }
     requires level { level ≤ 10 }
+    requires denominator { denominator ≤ 1000000000 }
     requires sound { IsMoves moves }
-    ensures ok { OnOk result (rate_sum dims level field.now moves ≤ denominator) }
-    ensures fault { IfErr result (λ fault. (fault ≡ no_memory) ⊎ ((denominator < rate_sum dims level field.now moves) × (fault ≡ ProblemFault.Rates field.now.label (rate_sum dims level field.now moves)))) }
+    ensures ok { OnOk result (sum_fits moves.order (rate_sum dims level field.now moves) denominator ≡ true) }
+    ensures fault { IfErr result (λ fault. (fault ≡ no_memory) ⊎ ((sum_fits moves.order (rate_sum dims level field.now moves) denominator ≡ false) × (fault ≡ ProblemFault.Rates field.now.label (rate_sum dims level field.now moves)))) }
 {
     let sum = rate_sum(dims, level, field, &moves);
-    if sum <= denominator {
+    if sum_fits(moves.order, sum, denominator) {
         return Ok(());
     }
     let label = Name::copy_of(alloc, field.label.as_str())?;

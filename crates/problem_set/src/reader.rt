@@ -121,6 +121,7 @@ impl<'a> BlockReader<'a> {
         requires most { 1 ≤ greatest }
         ensures value { Answers (λ n. n) result (number_or_one self.now.deck.now self.now.block.now key.now least greatest default) }
         ensures least { IfOk result (λ n. 1 ≤ n) }
+        ensures more { IfOk result (λ n. 2 ≤ n → least ≤ n) }
         ensures greatest { IfOk result (λ n. n ≤ greatest) }
     {
         let n = self.number_at(key, default)?;

@@ -7,8 +7,10 @@ ghost use Rattle.problem_set.specs.Stepping.{nlim, alloc_threshold, dealloc_thre
 ghost use Rattle.problem_set.specs.Stepping.{denominator, nstages, refine_every, dump_every};
 ghost use Rattle.problem_set.specs.Stepping.{sparsity, pace, stepping};
 ghost use Rattle.problem_set.specs.Sound.{IsSparsity, IsPace, IsStepping};
+ghost use Rattle.problem_set.specs.SoundEntries.{greatest_total};
 
 use crate::fault::ProblemFault;
+use crate::mesh_part::GREATEST_TOTAL;
 use crate::reader::BlockReader;
 use input_file::Deck;
 use std::alloc::Global;
@@ -141,18 +143,18 @@ fn read_nlim(time: &BlockReader) -> Result<u32, ProblemFault>
 fn read_alloc_threshold(sparse: &BlockReader) -> Result<u64, ProblemFault>
     requires { sparse.now.block.now ≡ sparse_block }
     ensures value { Gives result (alloc_threshold sparse.now.deck.now) }
-    ensures greatest { IfOk result (λ n. n ≤ 0) }
+    ensures greatest { IfOk result (λ n. n ≤ greatest_total) }
 {
-    sparse.number("alloc_threshold", 0, 0, Some(0))
+    sparse.number("alloc_threshold", 0, GREATEST_TOTAL, Some(0))
 }
 
 #[tactic(auto, unfolding(crate::specs::Stepping::dealloc_threshold))]
 fn read_dealloc_threshold(sparse: &BlockReader) -> Result<u64, ProblemFault>
     requires { sparse.now.block.now ≡ sparse_block }
     ensures value { Gives result (dealloc_threshold sparse.now.deck.now) }
-    ensures greatest { IfOk result (λ n. n ≤ 0) }
+    ensures greatest { IfOk result (λ n. n ≤ greatest_total) }
 {
-    sparse.number("dealloc_threshold", 0, 0, Some(0))
+    sparse.number("dealloc_threshold", 0, GREATEST_TOTAL, Some(0))
 }
 
 #[tactic(auto, unfolding(crate::specs::Stepping::dealloc_count))]

@@ -75,7 +75,7 @@ impl FaceKind {
     }
 }
 
-/// Kinds of faces in order: the low and the high face of x1, then of x2.
+/// Kinds of faces in order: the low and the high face of x1, of x2 and of x3.
 pub type Faces = Items<FaceKind>;
 
 /// How a criterion measures a block.

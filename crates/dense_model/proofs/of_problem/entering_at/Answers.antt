@@ -12,7 +12,7 @@ pub returns-then-has : goal.returns-then-has
 returns-then-has c =
     let p = settings_of c.args.problem.now in
     let r = field_at (rules_of p) c.args.field in
-    let none : Moves = record { v = []; k = 0; entry = [] } in
+    let none : Moves = record { v = []; k = 0; order = 0; entry = [] } in
     let m : Moves = slice_index_or c.as_slice.result.now c.args.field none in
     let same = c.args.problem.now.fields_sound.same_length in
     let there = ap (λ (ms : List Moves). slice_index_or ms c.args.field none) (sym c.as_slice.ensures) in

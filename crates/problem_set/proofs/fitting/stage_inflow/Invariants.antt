@@ -8,5 +8,5 @@ use Rattle.problem_set.proofs.fitting.stage_inflow.Given as goal
 abbrev pub invariant-loop-i : goal.invariant-loop-i
 invariant-loop-i l = record {
   total : l.sum ≡ sum_by (λ (p : Field × Moves). field_inflow l.dims l.size l.faces p.0 p.1) (take l.i (zip l.fields l.moves));
-  bound : l.sum ≤ 2 ^ 86 * l.i;
+  bound : l.sum ≤ 2 ^ 99 * l.i;
 }
