@@ -1,1 +1,3 @@
 pub mod Label
+pub mod Idle
+pub mod Mask
