@@ -5,3 +5,4 @@ pub mod Behinds
 pub mod Changes
 pub mod LeafList
 pub mod KeyOrder
+pub mod Next
