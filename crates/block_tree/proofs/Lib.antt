@@ -1,6 +1,7 @@
 pub mod Forced
 pub mod Ancestors
 mod Chosen
+mod Sides
 pub mod Behinds
 pub mod Changes
 pub mod LeafList
