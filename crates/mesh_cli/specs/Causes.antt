@@ -2,15 +2,15 @@
 use Rattle.std.specs.Prelude.{◌≡◌, ℕ, ◌⊎◌, List, Option, Some, None, Result, Ok, Err}
 use Rattle.mesh_outside.specs.declared.files.File.{File}
 use Rattle.mesh_outside.specs.Files.{input_of}
-use Rattle.mesh_words.specs.Accepted.{Accepted as Said}
-use Rattle.mesh_words.specs.declared.fault.WordsFault.{WordsFault}
-use Rattle.mesh_input.specs.declared.outcome.Status.{Status}
-use Rattle.mesh_input.specs.declared.outcome.Status.TheVariants as status
+use Rattle.mesh_words.specs.Arguments.{Arguments}
+use Rattle.mesh_words.specs.declared.fault.UsageFault.{UsageFault}
+use Rattle.mesh_outcome.specs.declared.status.Status.{Status}
+use Rattle.mesh_outcome.specs.declared.status.Status.TheVariants as status
 use Rattle.mesh_cli.specs.Verdicts.{Verdict, runs, lists, refused, verdict}
 
 -- the count of read faults of the file that the words name rose
-abbrev pub NamedRose : Result Said WordsFault → (List ℕ → Type 0) → Type 0
-NamedRose (Ok said) read_rose = read_rose said.input
+abbrev pub NamedRose : Result Arguments UsageFault → (List ℕ → Type 0) → Type 0
+NamedRose (Ok arguments) read_rose = read_rose arguments.input
 NamedRose (Err fault) read_rose = ⊥
 
 -- the status that a verdict calls for
@@ -24,13 +24,13 @@ abbrev pub IsOrNoMemory : Status → Status → Type 0
 IsOrNoMemory wanted answered = (answered ≡ wanted) ⊎ (answered ≡ status.NoMemory)
 
 -- where no count of faults rose, accepted words and a file that is told end with the status of what they come to
-abbrev pub CompletesFile : Said → Option (List File) → Type 0 → Type 0 → Type 0 → Status → Type 0
-CompletesFile said None read_rose write_rose print_rose answered = Unit {0}
-CompletesFile said (Some files) read_rose write_rose print_rose answered =
-    (bytes : List ℕ) → input_of files said.input ≡ Some bytes → (read_rose → ⊥) → (write_rose → ⊥) → (print_rose → ⊥)
-    → IsOrNoMemory (status_for (verdict said bytes)) answered
+abbrev pub CompletesFile : Arguments → Option (List File) → Type 0 → Type 0 → Type 0 → Status → Type 0
+CompletesFile arguments None read_rose write_rose print_rose answered = Unit {0}
+CompletesFile arguments (Some files) read_rose write_rose print_rose answered =
+    (bytes : List ℕ) → input_of files arguments.input ≡ Some bytes → (read_rose → ⊥) → (write_rose → ⊥) → (print_rose → ⊥)
+    → IsOrNoMemory (status_for (verdict arguments bytes)) answered
 
 -- words that are refused end with the status of usage where the count of failed prints did not rise
-abbrev pub Completes : Result Said WordsFault → Option (List File) → (List ℕ → Type 0) → Type 0 → Type 0 → Status → Type 0
-Completes (Ok said) inputs read_rose write_rose print_rose answered = CompletesFile said inputs (read_rose said.input) write_rose print_rose answered
+abbrev pub Completes : Result Arguments UsageFault → Option (List File) → (List ℕ → Type 0) → Type 0 → Type 0 → Status → Type 0
+Completes (Ok arguments) inputs read_rose write_rose print_rose answered = CompletesFile arguments inputs (read_rose arguments.input) write_rose print_rose answered
 Completes (Err fault) inputs read_rose write_rose print_rose answered = (print_rose → ⊥) → IsOrNoMemory status.Usage answered

@@ -3,19 +3,19 @@ use Rattle.std.specs.Prelude.{◌≡◌, ℕ, ◌⊎◌, List, Option, Result, O
 use Rattle.problem_set.specs.Settings.{Settings}
 use Rattle.mesh_outside.specs.declared.files.File.{File}
 use Rattle.mesh_outside.specs.declared.files.Gained.{Gained}
-use Rattle.mesh_outside.specs.Gained.{Gains, GainsCut}
-use Rattle.mesh_words.specs.Accepted.{Accepted as Said}
-use Rattle.mesh_words.specs.declared.fault.WordsFault.{WordsFault}
-use Rattle.mesh_input.specs.declared.outcome.Outcome.{Outcome}
-use Rattle.mesh_input.specs.declared.outcome.Outcome.TheVariants.{Done, Listed, Usage, Refused, ReadFault, WriteFault, NoMemory}
+use Rattle.mesh_outside.specs.Gained.{Gains, GainsPrefix}
+use Rattle.mesh_words.specs.Arguments.{Arguments}
+use Rattle.mesh_words.specs.declared.fault.UsageFault.{UsageFault}
+use Rattle.mesh_outcome.specs.declared.outcome.Outcome.{Outcome}
+use Rattle.mesh_outcome.specs.declared.outcome.Outcome.TheVariants.{Done, Listed, Usage, Refused, ReadFault, WriteFault, NoMemory}
 use Rattle.mesh_driver.specs.Files.{end_of, files_of}
 use Rattle.mesh_cli.specs.Verdicts.{Verdict, runs, lists, refused, ComesTo}
 
 -- the run of a problem: all its files are gained, or writing stopped among them
 abbrev pub RunEnds : Settings → List ℕ → Outcome → Type 0 → Option (List Gained) → Option (List Gained) → Type 0
 RunEnds p prefix (Done cycles blocks total) write_rose old new = (record { cycles = cycles; blocks = blocks; total = total } ≡ end_of p) × Gains old new (files_of p prefix)
-RunEnds p prefix WriteFault write_rose old new = write_rose × GainsCut old new (files_of p prefix)
-RunEnds p prefix NoMemory write_rose old new = GainsCut old new (files_of p prefix)
+RunEnds p prefix WriteFault write_rose old new = write_rose × GainsPrefix old new (files_of p prefix)
+RunEnds p prefix NoMemory write_rose old new = GainsPrefix old new (files_of p prefix)
 RunEnds p prefix (Listed deck) write_rose old new = ⊥
 RunEnds p prefix (Usage fault) write_rose old new = ⊥
 RunEnds p prefix (Refused refusal) write_rose old new = ⊥
@@ -38,16 +38,16 @@ EndsUnread (Refused refusal) read_rose old new = ⊥
 EndsUnread WriteFault read_rose old new = ⊥
 
 -- the call ended as what its words and the file come to says
-pub record EndsJudged (said : Said) (outcome : Outcome) (inputs : Option (List File)) (write_rose : Type 0) (old new : Option (List Gained)) : Type 0 where
+pub record EndsJudged (arguments : Arguments) (outcome : Outcome) (inputs : Option (List File)) (write_rose : Type 0) (old new : Option (List Gained)) : Type 0 where
   pub verdict : Verdict
-  pub comes_to : ComesTo inputs said verdict
-  pub ends : EndsBy said.prefix verdict outcome write_rose old new
+  pub comes_to : ComesTo inputs arguments verdict
+  pub ends : EndsBy arguments.prefix verdict outcome write_rose old new
 
 -- a call whose words are accepted; a fault of reading only where that count of faults rose, and so for a fault of writing
-abbrev pub EndsAccepted : Said → Outcome → Option (List File) → Type 0 → Type 0 → Option (List Gained) → Option (List Gained) → Type 0
-EndsAccepted said outcome inputs read_rose write_rose old new = EndsUnread outcome read_rose old new ⊎ EndsJudged said outcome inputs write_rose old new
+abbrev pub EndsAccepted : Arguments → Outcome → Option (List File) → Type 0 → Type 0 → Option (List Gained) → Option (List Gained) → Type 0
+EndsAccepted arguments outcome inputs read_rose write_rose old new = EndsUnread outcome read_rose old new ⊎ EndsJudged arguments outcome inputs write_rose old new
 
 -- any call: words that are refused end it, with nothing gained
-abbrev pub EndsWith : Result Said WordsFault → Outcome → Option (List File) → (List ℕ → Type 0) → Type 0 → Option (List Gained) → Option (List Gained) → Type 0
-EndsWith (Ok said) outcome inputs read_rose write_rose old new = EndsAccepted said outcome inputs (read_rose said.input) write_rose old new
+abbrev pub EndsWith : Result Arguments UsageFault → Outcome → Option (List File) → (List ℕ → Type 0) → Type 0 → Option (List Gained) → Option (List Gained) → Type 0
+EndsWith (Ok arguments) outcome inputs read_rose write_rose old new = EndsAccepted arguments outcome inputs (read_rose arguments.input) write_rose old new
 EndsWith (Err fault) outcome inputs read_rose write_rose old new = ((outcome ≡ Usage fault) ⊎ (outcome ≡ NoMemory)) × (new ≡ old)

@@ -7,7 +7,7 @@ use Rattle.std.proofs.lemmas.List.Elements.{filter-append}
 use Rattle.problem_set.specs.Settings.{Settings}
 use Rattle.dense_model.specs.RunFiles.{RunAt, dump_after, dump_file_name, is_dumped}
 use Rattle.mesh_outside.specs.declared.files.Gained.{Gained}
-use Rattle.mesh_outside.specs.Gained.{IsClosed, Gains, GainsCut}
+use Rattle.mesh_outside.specs.Gained.{IsClosed, Gains, GainsPrefix}
 use Rattle.mesh_driver.specs.Files.{whole_file, dump_of, files_at, files_of}
 use Rattle.mesh_driver.proofs.Gaining.{closed_after, gains_more, gains_cut_more}
 
@@ -67,7 +67,7 @@ gains_next p prefix n m a b c next first second =
     subst (λ (v : ℕ). Gains a c (files_before p prefix v)) (sym next) more
 
 -- writing stopped among the files of a cycle
-pub stops_at : (p : Settings) (prefix : List ℕ) (n : ℕ) (a b c : Option (List Gained)) → n ≤ p.nlim → Gains a b (files_before p prefix n) → GainsCut b c (files_at p prefix n) → GainsCut a c (files_of p prefix)
+pub stops_at : (p : Settings) (prefix : List ℕ) (n : ℕ) (a b c : Option (List Gained)) → n ≤ p.nlim → Gains a b (files_before p prefix n) → GainsPrefix b c (files_at p prefix n) → GainsPrefix a c (files_of p prefix)
 stops_at p prefix n a b c within first stopped =
     gains_cut_more a b c (files_of p prefix) (files_before p prefix n) (files_at p prefix n) (files_among p prefix (range_with_len (n + 1) (p.nlim - n)))
     (all_split p prefix n within) first stopped
@@ -86,10 +86,10 @@ gains_opening p prefix a b gains =
     let one : 1 ≡ 0 + 1 = omega arith in
     gains_next p prefix 0 1 a a b one (none_gained p prefix a) (subst (λ (v : List Gained). Gains a b v) (opening_due p prefix) gains)
 
-pub stops_at_opening : (p : Settings) (prefix : List ℕ) (a b : Option (List Gained)) → GainsCut a b (dump_of p prefix 0 ∷ []) → GainsCut a b (files_of p prefix)
+pub stops_at_opening : (p : Settings) (prefix : List ℕ) (a b : Option (List Gained)) → GainsPrefix a b (dump_of p prefix 0 ∷ []) → GainsPrefix a b (files_of p prefix)
 stops_at_opening p prefix a b stopped =
     let least : 0 ≤ p.nlim = omega arith in
-    stops_at p prefix 0 a a b least (none_gained p prefix a) (subst (λ (v : List Gained). GainsCut a b v) (opening_due p prefix) stopped)
+    stops_at p prefix 0 a a b least (none_gained p prefix a) (subst (λ (v : List Gained). GainsPrefix a b v) (opening_due p prefix) stopped)
 
 -- the files of a cycle are finished
 at_closed : (p : Settings) (prefix : List ℕ) (n : ℕ) → IsClosed (files_at p prefix n)
@@ -113,7 +113,7 @@ nothing_gained None = refl
 nothing_gained (Some w) = ap Some (sym (append-nil w))
 
 -- writing stopped before the first file
-pub nothing_cut : (a : Option (List Gained)) (files : List Gained) → GainsCut a a files
+pub nothing_cut : (a : Option (List Gained)) (files : List Gained) → GainsPrefix a a files
 nothing_cut a files = record { cut = []; is_cut = inl (record { others = files; together = refl }); gained = nothing_gained a }
 
 -- whether a dump is due after one cycle more
@@ -143,9 +143,9 @@ started_gains p prefix r a c is =
     let P : RunAt → Type 0 = λ v. Gains a c (dump_of v.problem prefix v.cycle ∷ []) → Gains a c (files_before p prefix (v.cycle + 1)) in
     subst P (sym is) (gains_opening p prefix a c)
 
-pub started_stops : (p : Settings) (prefix : List ℕ) (r : RunAt) (a c : Option (List Gained)) → r ≡ record { problem = p; cycle = 0 } → GainsCut a c (dump_of r.problem prefix r.cycle ∷ []) → GainsCut a c (files_of p prefix)
+pub started_stops : (p : Settings) (prefix : List ℕ) (r : RunAt) (a c : Option (List Gained)) → r ≡ record { problem = p; cycle = 0 } → GainsPrefix a c (dump_of r.problem prefix r.cycle ∷ []) → GainsPrefix a c (files_of p prefix)
 started_stops p prefix r a c is =
-    let P : RunAt → Type 0 = λ v. GainsCut a c (dump_of v.problem prefix v.cycle ∷ []) → GainsCut a c (files_of p prefix) in
+    let P : RunAt → Type 0 = λ v. GainsPrefix a c (dump_of v.problem prefix v.cycle ∷ []) → GainsPrefix a c (files_of p prefix) in
     subst P (sym is) (stops_at_opening p prefix a c)
 
 pub started_closed : (p : Settings) (prefix : List ℕ) (r : RunAt) (a c : Option (List Gained)) → r ≡ record { problem = p; cycle = 0 } → Gains a c (dump_of r.problem prefix r.cycle ∷ []) → ForSome a IsClosed → ForSome c IsClosed

@@ -3,7 +3,7 @@ use Rattle.std.proofs.Common.{◌≡◌, List, [], ◌∷◌, ◌++◌, Option, 
 use Rattle.std.specs.Option.{option_map, ForSome}
 use Rattle.std.proofs.lemmas.List.Elements.{All-append}
 use Rattle.mesh_outside.specs.declared.files.Gained.{Gained}
-use Rattle.mesh_outside.specs.Gained.{IsClosed, Gains, IsCut, GainsCut}
+use Rattle.mesh_outside.specs.Gained.{IsClosed, Gains, IsPrefix, GainsPrefix}
 
 -- files that are gained one list after another
 pub gains_more : (a b c : Option (List Gained)) (xs ys : List Gained) → Gains a b xs → Gains b c ys → Gains a c (xs ++ ys)
@@ -22,7 +22,7 @@ closed_after (Some v) b xs gains closed whole = λ w is.
     subst IsClosed joined (All-append (λ file. IsTrue file.whole) v xs (closed v refl) whole)
 
 -- a cut of some files, behind others before them and with others after them
-pub cut_within : (files xs ys others cut : List Gained) → files ≡ (xs ++ ys) ++ others → IsCut ys cut → IsCut files (xs ++ cut)
+pub cut_within : (files xs ys others cut : List Gained) → files ≡ (xs ++ ys) ++ others → IsPrefix ys cut → IsPrefix files (xs ++ cut)
 cut_within files xs ys others cut all (inl first) = inl (record {
   others = first.others ++ others;
   together = append_assoc xs cut (first.others ++ others)
@@ -45,7 +45,7 @@ cut_within files xs ys others cut all (inr stopped) = inr (record {
 })
 
 -- writing that stops among later files
-pub gains_cut_more : (a b c : Option (List Gained)) (files xs ys others : List Gained) → files ≡ (xs ++ ys) ++ others → Gains a b xs → GainsCut b c ys → GainsCut a c files
+pub gains_cut_more : (a b c : Option (List Gained)) (files xs ys others : List Gained) → files ≡ (xs ++ ys) ++ others → Gains a b xs → GainsPrefix b c ys → GainsPrefix a c files
 gains_cut_more a b c files xs ys others all first stopped = record {
   cut = xs ++ stopped.cut;
   is_cut = cut_within files xs ys others stopped.cut all stopped.is_cut;

@@ -2,7 +2,7 @@ ghost use Rattle.std.specs.Prelude.{◌≡◌, ℕ, ◌+◌, ◌<◌, ◌≤◌,
 ghost use Rattle.std.specs.Option.{ForSome};
 ghost use Rattle.problem_set.specs.SettingsOf.{settings_of};
 ghost use Rattle.dense_model.specs.OfProblem.{is_built};
-ghost use Rattle.mesh_outside.specs.Gained.{IsClosed, Gains, GainsCut};
+ghost use Rattle.mesh_outside.specs.Gained.{IsClosed, Gains, GainsPrefix};
 ghost use Rattle.mesh_driver.specs.Fault.{HasWriteCause};
 ghost use Rattle.mesh_driver.specs.Files.{dump_of, end_of, files_at, files_of};
 
@@ -35,7 +35,7 @@ pub fn drive<D: Depot>(
     requires closed { ForSome (D.written depot.old) IsClosed }
     ensures ok { OnOk result (Gains (D.written depot.old) (D.written depot.new) (files_of (settings_of problem.now) prefix.now)) }
     ensures end { IfOk result (λ end. end ≡ end_of (settings_of problem.now)) }
-    ensures err { OnErr result (GainsCut (D.written depot.old) (D.written depot.new) (files_of (settings_of problem.now) prefix.now)) }
+    ensures err { OnErr result (GainsPrefix (D.written depot.old) (D.written depot.new) (files_of (settings_of problem.now) prefix.now)) }
     ensures inputs { D.inputs depot.new ≡ D.inputs depot.old }
     ensures write_cause { HasWriteCause (D.write_faults depot.old) (D.write_faults depot.new) result }
     ensures reads_later { (name : List ℕ) → D.read_faults depot.old name ≤ D.read_faults depot.new name }
@@ -65,7 +65,7 @@ fn advance<'a, D: Depot>(
     requires closed { ForSome (D.written depot.old) IsClosed }
     ensures next { run.new ≡ record run.old { cycle = run.old.cycle + 1 } }
     ensures ok { OnOk result (Gains (D.written depot.old) (D.written depot.new) (files_at (settings_of problem.now) prefix.now (run.old.cycle + 1))) }
-    ensures err { OnErr result (GainsCut (D.written depot.old) (D.written depot.new) (files_at (settings_of problem.now) prefix.now (run.old.cycle + 1))) }
+    ensures err { OnErr result (GainsPrefix (D.written depot.old) (D.written depot.new) (files_at (settings_of problem.now) prefix.now (run.old.cycle + 1))) }
     ensures inputs { D.inputs depot.new ≡ D.inputs depot.old }
     ensures write_cause { HasWriteCause (D.write_faults depot.old) (D.write_faults depot.new) result }
     ensures reads_later { (name : List ℕ) → D.read_faults depot.old name ≤ D.read_faults depot.new name }
@@ -87,7 +87,7 @@ fn write_dump<'a, D: Depot>(
 ) -> Result<(), DriveFault>
     requires { ForSome (D.written depot.old) IsClosed }
     ensures ok { OnOk result (Gains (D.written depot.old) (D.written depot.new) (dump_of run.now.problem prefix.now run.now.cycle ∷ [])) }
-    ensures err { OnErr result (GainsCut (D.written depot.old) (D.written depot.new) (dump_of run.now.problem prefix.now run.now.cycle ∷ [])) }
+    ensures err { OnErr result (GainsPrefix (D.written depot.old) (D.written depot.new) (dump_of run.now.problem prefix.now run.now.cycle ∷ [])) }
     ensures inputs { D.inputs depot.new ≡ D.inputs depot.old }
     ensures write_cause { HasWriteCause (D.write_faults depot.old) (D.write_faults depot.new) result }
     ensures reads_later { (name : List ℕ) → D.read_faults depot.old name ≤ D.read_faults depot.new name }

@@ -1,3 +1,3 @@
-pub mod Files
-pub mod Overriding
-pub mod Steps
+pub mod FileLemmas
+pub mod OverrideLemmas
+pub mod StepLemmas

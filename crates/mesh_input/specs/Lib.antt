@@ -1,5 +1,3 @@
-pub mod Answers
-pub mod Inputs
-pub mod Lines
-pub mod Statuses
-pub mod Stops
+pub mod Fault
+pub mod File
+pub mod Input

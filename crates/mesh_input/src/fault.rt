@@ -1,5 +1,5 @@
 ghost use Rattle.std.specs.Prelude.{◌≡◌};
-ghost use Rattle.mesh_input.specs.Stops.{stop_of_deck, stop_of_override, stop_of_problem, stop_of_reading};
+ghost use Rattle.mesh_input.specs.Fault.{stop_of_deck, stop_of_override, stop_of_problem, stop_of_reading};
 
 use input_file::DeckFault;
 use mesh_outside::OutFault;

@@ -1,8 +1,8 @@
 ghost use Rattle.std.specs.Prelude.{◌≡◌, ℕ, ◌≤◌, List, map};
-ghost use Rattle.mesh_input.specs.Answers.{AnswersFile, HasReadCause};
+ghost use Rattle.mesh_input.specs.File.{AnswersFile, HasReadCause};
 
-use crate::accept::{Input, accept_bytes};
 use crate::fault::{InputFault, stop_of_reading};
+use crate::input::{Input, accept_bytes};
 use mesh_outside::{Depot, read_input};
 use std::alloc::Global;
 

@@ -1,5 +1,5 @@
-pub mod Cuts
+pub mod Prefixes
 pub mod Exits
 pub mod Found
-pub mod Fronts
+pub mod ReadSoFar
 pub mod Lasts

@@ -32,7 +32,7 @@ abbrev pub finished : List Gained → List Gained
 finished files = with_last (λ last. record last { whole = true }) files
 
 -- the last file has some of the first of these bytes more
-pub record AppendsFront (bytes : List ℕ) (old new : Option (List Gained)) : Type 0 where
+pub record AppendsPrefix (bytes : List ℕ) (old new : Option (List Gained)) : Type 0 where
   pub count : ℕ
   pub is : new ≡ option_map (appended (take count bytes)) old
 
@@ -48,12 +48,12 @@ pub record IsPartOf (file part : Gained) : Type 0 where
   pub whole : part.whole ≡ false
 
 -- some of the first of these files
-pub record AreFirst (files gained : List Gained) : Type 0 where
+pub record AreFirstFiles (files gained : List Gained) : Type 0 where
   pub others : List Gained
   pub together : gained ++ others ≡ files
 
 -- some of the first of these files, and a part of the next one
-pub record AreFirstAndPart (files gained : List Gained) : Type 0 where
+pub record AreFirstFilesAndPart (files gained : List Gained) : Type 0 where
   pub front : List Gained
   pub file : Gained
   pub part : Gained
@@ -63,11 +63,11 @@ pub record AreFirstAndPart (files gained : List Gained) : Type 0 where
   pub files_are : files ≡ front ++ file ∷ others
 
 -- what is there of these files where writing stopped
-abbrev pub IsCut : List Gained → List Gained → Type 0
-IsCut files gained = AreFirst files gained ⊎ AreFirstAndPart files gained
+abbrev pub IsPrefix : List Gained → List Gained → Type 0
+IsPrefix files gained = AreFirstFiles files gained ⊎ AreFirstFilesAndPart files gained
 
 -- what was gained, behind what there was, is a cut of these files
-pub record GainsCut (old new : Option (List Gained)) (files : List Gained) : Type 0 where
+pub record GainsPrefix (old new : Option (List Gained)) (files : List Gained) : Type 0 where
   pub cut : List Gained
-  pub is_cut : IsCut files cut
+  pub is_cut : IsPrefix files cut
   pub gained : Gains old new cut

@@ -4,7 +4,7 @@ ghost use Rattle.mesh_outside.specs.declared.files.File.{File};
 ghost use Rattle.mesh_outside.specs.declared.files.Gained.{Gained};
 ghost use Rattle.mesh_outside.specs.Fault.{HasCause};
 ghost use Rattle.mesh_outside.specs.Files.{Reads};
-ghost use Rattle.mesh_outside.specs.Gained.{IsClosed, IsOpen, begun, appended, finished, AppendsFront};
+ghost use Rattle.mesh_outside.specs.Gained.{IsClosed, IsOpen, begun, appended, finished, AppendsPrefix};
 
 use crate::OutFault;
 
@@ -49,7 +49,7 @@ pub trait Depot {
     fn append(&mut self, bytes: &[u8]) -> Result<(), OutFault>
         requires { ForSome (written self.old) IsOpen }
         ensures ok { OnOk result (written self.new ≡ option_map (appended bytes.now) (written self.old)) }
-        ensures err { OnErr result (AppendsFront bytes.now (written self.old) (written self.new)) }
+        ensures err { OnErr result (AppendsPrefix bytes.now (written self.old) (written self.new)) }
         ensures inputs { inputs self.new ≡ inputs self.old }
         ensures write_cause { HasCause (write_faults self.old) (write_faults self.new) result }
         ensures reads_later { (name : List ℕ) → read_faults self.old name ≤ read_faults self.new name };

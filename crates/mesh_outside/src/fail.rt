@@ -1,4 +1,4 @@
-use sqlite_items::Items;
+use crate::Items;
 
 /// A call of a memory depot that fails. Calls and files are counted from 1.
 #[derive(Clone, Copy, Debug, PartialEq, Eq)]

@@ -1,6 +1,6 @@
 ghost use Rattle.std.specs.Prelude.{◌≡◌, ◌++◌, string_bytes, OnOk, OnErr};
 
-use sqlite_items::Items;
+use crate::Items;
 use std::alloc::AllocError;
 use std::marker::Model;
 

@@ -2,7 +2,7 @@ ghost use Rattle.std.specs.Prelude.{◌≡◌, ℕ, ◌≤◌, ◌/◌, ◌⊎�
 ghost use Rattle.std.specs.Option.{ForSome};
 ghost use Rattle.mesh_outside.specs.Fault.{HasCause, next};
 ghost use Rattle.mesh_outside.specs.Files.{Reads, input_of};
-ghost use Rattle.mesh_outside.specs.Gained.{IsClosed, IsOpen, begun, appended, finished, AppendsFront};
+ghost use Rattle.mesh_outside.specs.Gained.{IsClosed, IsOpen, begun, appended, finished, AppendsPrefix};
 ghost use Rattle.mesh_outside.specs.MemState.{opening, FailsExactly, piece_of};
 
 use crate::mem_read::read_from;
@@ -123,7 +123,7 @@ impl Depot for MemDepot {
     fn append(&mut self, bytes: &[u8]) -> Result<(), OutFault>
         requires { IsOpen self.old.written }
         ensures ok { OnOk result (self.new.written ≡ appended bytes.now self.old.written) }
-        ensures err { OnErr result (AppendsFront bytes.now (Some self.old.written) (Some self.new.written)) }
+        ensures err { OnErr result (AppendsPrefix bytes.now (Some self.old.written) (Some self.new.written)) }
         ensures fails { IsTrue self.old.is_fresh → Contains self.old.fails (Fail.AppendOf (length self.old.written)) → IsErr result }
         ensures fresh_only { result ≡ Err OutFault.Failed → IsTrue self.old.is_fresh }
         ensures named_only { result ≡ Err OutFault.Failed → Contains self.old.fails (Fail.AppendOf (length self.old.written)) }

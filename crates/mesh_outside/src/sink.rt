@@ -1,7 +1,7 @@
 ghost use Rattle.std.specs.Prelude.{◌≡◌, ℕ, List, Option, ◌++◌, OnOk, OnErr};
 ghost use Rattle.std.specs.Option.{option_map};
 ghost use Rattle.mesh_outside.specs.Fault.{HasCause};
-ghost use Rattle.mesh_outside.specs.Printed.{PrintsFront};
+ghost use Rattle.mesh_outside.specs.Printed.{PrintsPrefix};
 
 use crate::OutFault;
 
@@ -17,6 +17,6 @@ pub trait Sink {
     /// Prints bytes behind what was printed before. When it fails, a front of them was printed.
     fn print(&mut self, bytes: &[u8]) -> Result<(), OutFault>
         ensures ok { OnOk result (printed self.new ≡ option_map (λ before. before ++ bytes.now) (printed self.old)) }
-        ensures err { OnErr result (PrintsFront bytes.now (printed self.old) (printed self.new)) }
+        ensures err { OnErr result (PrintsPrefix bytes.now (printed self.old) (printed self.new)) }
         ensures cause { HasCause (faults self.old) (faults self.new) result };
 }

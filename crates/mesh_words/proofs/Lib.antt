@@ -1,3 +1,3 @@
-pub mod Digits
+pub mod NumberLemmas
 pub mod ReadLemmas
 pub mod RowLemmas

@@ -6,9 +6,9 @@ use Rattle.clap.specs.declared.error.Error.{Error}
 use Rattle.clap.specs.declared.error.kind.ErrorKind.{ErrorKind}
 use Rattle.clap.specs.declared.error.kind.ErrorKind.TheVariants.{OutOfMemory}
 use Rattle.mesh_words.specs.Command.{command, names_none}
-use Rattle.mesh_words.specs.Accepted.{Accepted, accepted_by, words_of}
-use Rattle.mesh_words.specs.declared.fault.WordsFault.{WordsFault}
-use Rattle.mesh_words.specs.declared.fault.WordsFault.TheVariants.{NoMemory, NotTheCommand}
+use Rattle.mesh_words.specs.Arguments.{Arguments, arguments_of_rows, arguments_of}
+use Rattle.mesh_words.specs.declared.fault.UsageFault.{UsageFault}
+use Rattle.mesh_words.specs.declared.fault.UsageFault.TheVariants.{NoMemory, NotTheCommand}
 
 -- the command is one for which clap makes its promise
 command-simple : is_simple_and_free command ≡ true
@@ -20,44 +20,44 @@ unfolding command
 command-matches = refl
 
 -- what is answered where clap names these kinds of fault
-told : Kinds → Result Accepted WordsFault → Result Accepted WordsFault
+told : Kinds → Result Arguments UsageFault → Result Arguments UsageFault
 told kinds taken = if names_none kinds then taken else Err NotTheCommand
 
-told-none : (kinds : Kinds) (taken : Result Accepted WordsFault) → kinds ≡ [] → told kinds taken ≡ taken
+told-none : (kinds : Kinds) (taken : Result Arguments UsageFault) → kinds ≡ [] → told kinds taken ≡ taken
 unfolding told
 told-none kinds taken none = ap (λ (k : Kinds). if names_none k then taken else Err NotTheCommand) none
 
-told-some : (kinds : Kinds) (taken : Result Accepted WordsFault) (k : ErrorKind) → IsAmong k kinds → told kinds taken ≡ Err NotTheCommand
+told-some : (kinds : Kinds) (taken : Result Arguments UsageFault) (k : ErrorKind) → IsAmong k kinds → told kinds taken ≡ Err NotTheCommand
 unfolding told
 told-some [] taken k among = absurd among
 told-some (x ∷ kinds) taken k among = refl
 
-words_of-told : (words : List Text) → words_of words ≡ told (fault_of command words) (accepted_by (matches_of command words))
+arguments_of-told : (words : List Text) → arguments_of words ≡ told (fault_of command words) (arguments_of_rows (matches_of command words))
 unfolding told
-words_of-told words = refl
+arguments_of-told words = refl
 
 -- words that clap takes say what its rows say
-pub words-taken : (a : App) (words : List Text) (rows : List Row) (Q : App → Type 0) → a ≡ command → (is_simple_and_free a ≡ true → fault_of a words ≡ []) → (is_simple a ≡ true → (rows ≡ matches_of a words) × Q a) → words_of words ≡ accepted_by rows
+pub words-taken : (a : App) (words : List Text) (rows : List Row) (Q : App → Type 0) → a ≡ command → (is_simple_and_free a ≡ true → fault_of a words ≡ []) → (is_simple a ≡ true → (rows ≡ matches_of a words) × Q a) → arguments_of words ≡ arguments_of_rows rows
 words-taken a words rows Q is faults matches =
     let none : fault_of command words ≡ [] = subst (λ (b : App). (is_simple_and_free b ≡ true → fault_of b words ≡ [])) is faults command-simple in
     let same : rows ≡ matches_of command words = (subst (λ (b : App). (is_simple b ≡ true → (rows ≡ matches_of b words) × Q b)) is matches command-matches).0 in
-    words_of-told words ∙ told-none (fault_of command words) (accepted_by (matches_of command words)) none ∙ ap accepted_by (sym same)
+    arguments_of-told words ∙ told-none (fault_of command words) (arguments_of_rows (matches_of command words)) none ∙ ap arguments_of_rows (sym same)
 
-refused-by : (words : List Text) (kind : ErrorKind) (fault : WordsFault) → (kind ≡ OutOfMemory) ⊎ IsAmong kind (fault_of command words) → ((kind ≡ OutOfMemory) × (fault ≡ NoMemory)) ⊎ ((kind ≢ OutOfMemory) × (fault ≡ NotTheCommand)) → (fault ≡ NoMemory) ⊎ (words_of words ≡ Err fault)
+refused-by : (words : List Text) (kind : ErrorKind) (fault : UsageFault) → (kind ≡ OutOfMemory) ⊎ IsAmong kind (fault_of command words) → ((kind ≡ OutOfMemory) × (fault ≡ NoMemory)) ⊎ ((kind ≢ OutOfMemory) × (fault ≡ NotTheCommand)) → (fault ≡ NoMemory) ⊎ (arguments_of words ≡ Err fault)
 refused-by words kind fault h (inl none) = inl none.1
 refused-by words kind fault (inl none) (inr other) = absurd (other.0 none)
-refused-by words kind fault (inr among) (inr other) = inr (words_of-told words ∙ told-some (fault_of command words) (accepted_by (matches_of command words)) kind among ∙ ap Err (sym other.1))
+refused-by words kind fault (inr among) (inr other) = inr (arguments_of-told words ∙ told-some (fault_of command words) (arguments_of_rows (matches_of command words)) kind among ∙ ap Err (sym other.1))
 
 -- words that clap refuses for another cause than memory are refused
-pub words-refused : (a : App) (words : List Text) (e : Error) (fault : WordsFault) → a ≡ command → (is_simple_and_free a ≡ true → HasKind (fault_of a words) e) → ((kind_of e ≡ OutOfMemory) × (fault ≡ NoMemory)) ⊎ ((kind_of e ≢ OutOfMemory) × (fault ≡ NotTheCommand)) → (fault ≡ NoMemory) ⊎ (words_of words ≡ Err fault)
+pub words-refused : (a : App) (words : List Text) (e : Error) (fault : UsageFault) → a ≡ command → (is_simple_and_free a ≡ true → HasKind (fault_of a words) e) → ((kind_of e ≡ OutOfMemory) × (fault ≡ NoMemory)) ⊎ ((kind_of e ≢ OutOfMemory) × (fault ≡ NotTheCommand)) → (fault ≡ NoMemory) ⊎ (arguments_of words ≡ Err fault)
 words-refused a words e fault is kinds cases =
     refused-by words (kind_of e) fault (subst (λ (b : App). (is_simple_and_free b ≡ true → HasKind (fault_of b words) e)) is kinds command-simple) cases
 
-taken-by : (kind : ErrorKind) (fault : WordsFault) → kind ≡ OutOfMemory → ((kind ≡ OutOfMemory) × (fault ≡ NoMemory)) ⊎ ((kind ≢ OutOfMemory) × (fault ≡ NotTheCommand)) → fault ≡ NotTheCommand → ⊥
+taken-by : (kind : ErrorKind) (fault : UsageFault) → kind ≡ OutOfMemory → ((kind ≡ OutOfMemory) × (fault ≡ NoMemory)) ⊎ ((kind ≢ OutOfMemory) × (fault ≡ NotTheCommand)) → fault ≡ NotTheCommand → ⊥
 taken-by kind fault none (inl h) is = absurd (cc)
 taken-by kind fault none (inr h) is = h.0 none
 
 -- words that clap takes are refused for want of memory alone
-pub taken-refused : (a : App) (words : List Text) (e : Error) (fault : WordsFault) → a ≡ command → (takes a words ≡ true → kind_of e ≡ OutOfMemory) → ((kind_of e ≡ OutOfMemory) × (fault ≡ NoMemory)) ⊎ ((kind_of e ≢ OutOfMemory) × (fault ≡ NotTheCommand)) → takes command words ≡ true → fault ≡ NotTheCommand → ⊥
+pub taken-refused : (a : App) (words : List Text) (e : Error) (fault : UsageFault) → a ≡ command → (takes a words ≡ true → kind_of e ≡ OutOfMemory) → ((kind_of e ≡ OutOfMemory) × (fault ≡ NoMemory)) ⊎ ((kind_of e ≢ OutOfMemory) × (fault ≡ NotTheCommand)) → takes command words ≡ true → fault ≡ NotTheCommand → ⊥
 taken-refused a words e fault is passes cases taken =
     taken-by (kind_of e) fault (passes (subst (λ (b : App). takes b words ≡ true) (sym is) taken)) cases

@@ -1,5 +1,5 @@
 pub mod Command
 pub mod Numbers
-pub mod Given
-pub mod Accepted
+pub mod RawArguments
+pub mod Arguments
 pub mod Seen

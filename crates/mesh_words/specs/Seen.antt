@@ -1,35 +1,35 @@
 -- What is answered, as contracts see it.
 use Rattle.std.specs.Prelude.{◌≡◌, ◌⊎◌, Result, Ok, Err, map, option_map}
-use Rattle.mesh_words.specs.Given.{Given}
-use Rattle.mesh_words.specs.Accepted.{Accepted}
-use Rattle.mesh_words.specs.declared.given.GivenWords.{GivenWords}
-use Rattle.mesh_words.specs.declared.words.Words.{Words}
-use Rattle.mesh_words.specs.declared.fault.WordsFault.{WordsFault}
-use Rattle.mesh_words.specs.declared.fault.WordsFault.TheVariants.{NoMemory}
+use Rattle.mesh_words.specs.RawArguments.{RawArguments}
+use Rattle.mesh_words.specs.Arguments.{Arguments}
+use Rattle.mesh_words.specs.declared.raw_arguments.RawArguments.{RawArguments as raw_arguments}
+use Rattle.mesh_words.specs.declared.arguments.Arguments.{Arguments as arguments}
+use Rattle.mesh_words.specs.declared.fault.UsageFault.{UsageFault}
+use Rattle.mesh_words.specs.declared.fault.UsageFault.TheVariants.{NoMemory}
 
--- what was given, with its texts by their bytes
-abbrev pub seen_given : GivenWords → Given
-seen_given g = record {
-  input = option_map (λ t. t.now) g.input;
-  seed = option_map (λ t. t.now) g.seed;
-  workers = option_map (λ t. t.now) g.workers;
-  prefix = option_map (λ t. t.now) g.prefix;
-  large = g.large;
-  events = g.events;
-  prints_deck = g.prints_deck;
+-- raw arguments, with their texts by their bytes
+abbrev pub seen_raw : raw_arguments → RawArguments
+seen_raw raw = record {
+  input = option_map (λ t. t.now) raw.input;
+  seed = option_map (λ t. t.now) raw.seed;
+  workers = option_map (λ t. t.now) raw.workers;
+  prefix = option_map (λ t. t.now) raw.prefix;
+  large = raw.large;
+  events = raw.events;
+  prints_deck = raw.prints_deck;
 }
 
--- what was accepted, with its texts by their bytes
-abbrev pub seen_words : Words → Accepted
-seen_words w = record {
-  input = w.input.now;
-  prefix = w.prefix.now;
-  workers = w.workers;
-  prints_deck = w.prints_deck;
-  overrides = map (λ t. t.now) w.overrides.items;
+-- arguments, with their texts by their bytes
+abbrev pub seen_arguments : arguments → Arguments
+seen_arguments a = record {
+  input = a.input.now;
+  prefix = a.prefix.now;
+  workers = a.workers;
+  prints_deck = a.prints_deck;
+  overrides = map (λ t. t.now) a.overrides.items;
 }
 
 -- what is answered, seen by `view`, is what the definition gives; want of memory alone is free
-abbrev pub Answers : {T V : Type 0} → (T → V) → Result T WordsFault → Result V WordsFault → Type 0
+abbrev pub Answers : {T V : Type 0} → (T → V) → Result T UsageFault → Result V UsageFault → Type 0
 Answers view (Ok x) told = told ≡ Ok (view x)
 Answers view (Err e) told = (e ≡ NoMemory) ⊎ (told ≡ Err e)

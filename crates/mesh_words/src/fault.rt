@@ -1,11 +1,11 @@
 ghost use Rattle.std.specs.Prelude.{◌≡◌};
-ghost use Rattle.mesh_words.specs.declared.fault.WordsFault.TheVariants.{NoMemory};
+ghost use Rattle.mesh_words.specs.declared.fault.UsageFault.TheVariants.{NoMemory};
 
 use std::alloc::{AllocError, AllocFailed};
 
 /// Why the words of a command line are refused: the first rule that they break.
 #[derive(Clone, Copy, Debug, PartialEq, Eq)]
-pub enum WordsFault {
+pub enum UsageFault {
     /// They are not the words of the command.
     NotTheCommand,
     /// Neither `-i` nor `-g` is given.
@@ -26,18 +26,18 @@ pub enum WordsFault {
     NoMemory,
 }
 
-impl From<AllocError> for WordsFault {
+impl From<AllocError> for UsageFault {
     ghost from_gives = { λ _ e. e ≡ NoMemory };
 
-    fn from(_e: AllocError) -> WordsFault {
-        WordsFault::NoMemory
+    fn from(_e: AllocError) -> UsageFault {
+        UsageFault::NoMemory
     }
 }
 
-impl<T: Drop> From<AllocFailed<T>> for WordsFault {
+impl<T: Drop> From<AllocFailed<T>> for UsageFault {
     ghost from_gives = { λ _ e. e ≡ NoMemory };
 
-    fn from(_e: AllocFailed<T>) -> WordsFault {
-        WordsFault::NoMemory
+    fn from(_e: AllocFailed<T>) -> UsageFault {
+        UsageFault::NoMemory
     }
 }

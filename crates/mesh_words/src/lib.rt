@@ -1,17 +1,17 @@
-//! The words of the command line.
+//! The arguments of a call, from the words of its command line.
 //!
-//! `read_words` reads them by `clap` as the command
+//! `read_arguments` reads the words by `clap` as the command
 //! `parthenon_whole (-i FILE | -g N [-l]) [-w N] [-d PREFIX] [-t] [-n] [block/name=value ..]` and then tests the rules
-//! between what was given. Contracts say what words give by clap's own promise for that command.
+//! between its options. Contracts say what words give by clap's own promise for that command.
 #![tactic(auto)]
 
+mod arguments;
 mod command;
 mod fault;
-mod given;
 mod numbers;
+mod raw_arguments;
 #[cfg(test)]
 mod tests;
-mod words;
 
-pub use fault::WordsFault;
-pub use words::{Words, read_words};
+pub use arguments::{Arguments, read_arguments};
+pub use fault::UsageFault;

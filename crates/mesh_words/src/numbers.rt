@@ -17,7 +17,7 @@ fn is_number(text: &str) -> bool
 }
 
 /// The number that a text writes in 1 to 10 decimal digits.
-#[tactic(auto, using(crate::proofs::Digits::number_from_parse))]
+#[tactic(auto, using(crate::proofs::NumberLemmas::number_from_parse))]
 pub fn number_of(text: &str) -> Option<u64>
     ensures { result ≡ (if is_number text.now then Some (digits_value 10 text.now) else None) }
 {

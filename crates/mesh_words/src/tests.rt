@@ -1,9 +1,9 @@
 //! What no contract says: that the calls succeed, and what clap makes of words that are written out.
-use crate::{Words, WordsFault, read_words};
+use crate::{UsageFault, Words, read_arguments};
 use std::alloc::{AllocError, Global};
 use std::test::Fail;
 
-fn words_of(alloc: Global, line: &str) -> Result<Vec<String>, AllocError> {
+fn words_in(alloc: Global, line: &str) -> Result<Vec<String>, AllocError> {
     let mut words = Vec::new(alloc);
     for word in line.split_whitespace() {
         words.push(String::from_str(alloc, word)?)?;
@@ -11,12 +11,12 @@ fn words_of(alloc: Global, line: &str) -> Result<Vec<String>, AllocError> {
     Ok(words)
 }
 
-fn fault_of(alloc: Global, line: &str) -> Result<Option<WordsFault>, AllocError> {
-    let words = words_of(alloc, line)?;
-    Ok(read_words(alloc, words.as_slice()).err())
+fn fault_of(alloc: Global, line: &str) -> Result<Option<UsageFault>, AllocError> {
+    let words = words_in(alloc, line)?;
+    Ok(read_arguments(alloc, words.as_slice()).err())
 }
 
-fn says(words: &Words<'_>, input: &str, prefix: &str, workers: u32, prints_deck: bool) -> bool {
+fn says(words: &Arguments<'_>, input: &str, prefix: &str, workers: u32, prints_deck: bool) -> bool {
     words.input == input
         && words.prefix == prefix
         && words.workers == workers
@@ -26,25 +26,25 @@ fn says(words: &Words<'_>, input: &str, prefix: &str, workers: u32, prints_deck:
 #[test]
 fn the_first_rule_refuses(rt: HostRuntime) -> Result<(), Fail> {
     let rows = [
-        ("", WordsFault::NoInput),
-        ("-l", WordsFault::NoInput),
-        ("-i", WordsFault::NotTheCommand),
-        ("-i f -i f", WordsFault::NotTheCommand),
-        ("-i f -n -n", WordsFault::NotTheCommand),
-        ("-i f -w -1", WordsFault::NotTheCommand),
-        ("-i f -x", WordsFault::NotTheCommand),
-        ("--help", WordsFault::NotTheCommand),
-        ("-h", WordsFault::NotTheCommand),
-        ("-i f -g 1 -l -w 0", WordsFault::TwoInputs),
-        ("-i f -l -w 0", WordsFault::Large),
-        ("-i f -w 0 -d=", WordsFault::Workers),
-        ("-i f -w 65", WordsFault::Workers),
-        ("-i f -w 00000000001", WordsFault::Workers),
-        ("-i f -w 1x", WordsFault::Workers),
-        ("-g 2147483648", WordsFault::Seed),
-        ("-i f -d=", WordsFault::Prefix),
-        ("-g 2147483647 -l", WordsFault::NotBuilt),
-        ("-i f -t", WordsFault::NotBuilt),
+        ("", UsageFault::NoInput),
+        ("-l", UsageFault::NoInput),
+        ("-i", UsageFault::NotTheCommand),
+        ("-i f -i f", UsageFault::NotTheCommand),
+        ("-i f -n -n", UsageFault::NotTheCommand),
+        ("-i f -w -1", UsageFault::NotTheCommand),
+        ("-i f -x", UsageFault::NotTheCommand),
+        ("--help", UsageFault::NotTheCommand),
+        ("-h", UsageFault::NotTheCommand),
+        ("-i f -g 1 -l -w 0", UsageFault::TwoInputs),
+        ("-i f -l -w 0", UsageFault::Large),
+        ("-i f -w 0 -d=", UsageFault::Workers),
+        ("-i f -w 65", UsageFault::Workers),
+        ("-i f -w 00000000001", UsageFault::Workers),
+        ("-i f -w 1x", UsageFault::Workers),
+        ("-g 2147483648", UsageFault::Seed),
+        ("-i f -d=", UsageFault::Prefix),
+        ("-g 2147483647 -l", UsageFault::NotBuilt),
+        ("-i f -t", UsageFault::NotBuilt),
     ];
     for (line, fault) in rows {
         assert_eq!(rt; fault_of(rt.alloc(), line)?, Some(fault));
@@ -63,8 +63,8 @@ fn words_say_what_they_give(rt: HostRuntime) -> Result<(), Fail> {
         ("-i f -w 0000000007 -- -x", "f", "mesh", 7, false),
     ];
     for (line, input, prefix, workers, prints_deck) in rows {
-        let list = words_of(rt.alloc(), line)?;
-        match read_words(rt.alloc(), list.as_slice()) {
+        let list = words_in(rt.alloc(), line)?;
+        match read_arguments(rt.alloc(), list.as_slice()) {
             Ok(words) => assert!(rt; says(&words, input, prefix, workers, prints_deck)),
             Err(_) => assert!(rt; false),
         }
@@ -74,8 +74,8 @@ fn words_say_what_they_give(rt: HostRuntime) -> Result<(), Fail> {
 
 #[test]
 fn overrides_come_in_order(rt: HostRuntime) -> Result<(), Fail> {
-    let list = words_of(rt.alloc(), "a/b=1 -i f c -- -i")?;
-    match read_words(rt.alloc(), list.as_slice()) {
+    let list = words_in(rt.alloc(), "a/b=1 -i f c -- -i")?;
+    match read_arguments(rt.alloc(), list.as_slice()) {
         Ok(words) => assert_eq!(rt; words.overrides.as_slice(), ["a/b=1", "c", "-i"].as_slice()),
         Err(_) => assert!(rt; false),
     }

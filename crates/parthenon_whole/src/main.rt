@@ -4,7 +4,7 @@
 
 use mesh_cli::{Outcome, mesh_plain, report};
 use mesh_outside::{FileDepot, StdSink};
-use mesh_words::WordsFault;
+use mesh_words::UsageFault;
 use std::process::ExitCode;
 use std::rt::Env;
 use std::{env, io};
@@ -35,7 +35,7 @@ fn words<R: Env + AllocGlobal>(rt: &R) -> io::Result<Vec<String>> {
 fn without_words(error: &io::Error) -> Outcome {
     match error.kind() {
         io::ErrorKind::InvalidData => Outcome::Usage {
-            fault: WordsFault::NotTheCommand,
+            fault: UsageFault::NotTheCommand,
         },
         _ => Outcome::NoMemory,
     }

@@ -1,5 +1,5 @@
 use Rattle.std.proofs.Common.{refl}
-use Rattle.mesh_input.proofs.Files.{answers_file}
+use Rattle.mesh_input.proofs.FileLemmas.{answers_file}
 use Rattle.mesh_input.proofs.file.accept_file.Goals as goal
 
 pub returns-in-Ok-clause-answer : goal.returns-in-Ok-clause-answer

@@ -1,5 +1,5 @@
 use Rattle.std.proofs.Common.{◌≡◌, ◌≤◌, ◌+◌, ◌-◌, ℕ, List, vec_len}
-use Rattle.mesh_outside.proofs.Fronts.{IsFront}
+use Rattle.mesh_outside.proofs.ReadSoFar.{IsFront}
 use Rattle.mesh_outside.proofs.reading.read_input.Given as goal
 
 abbrev pub decreases-loop-bytes : goal.decreases-loop-bytes

@@ -1,6 +1,6 @@
 use Rattle.std.proofs.Common.{◌∙◌}
 use Rattle.std.proofs.lemmas.Result.{on_err_weaker}
-use Rattle.mesh_outside.proofs.Cuts.{stopped_at_append, stopped_at_finish}
+use Rattle.mesh_outside.proofs.Prefixes.{stopped_at_append, stopped_at_finish}
 use Rattle.mesh_outside.proofs.Exits.{always_on_err}
 use Rattle.mesh_outside.proofs.writing.write_file.Goals as goal
 

@@ -1,6 +1,6 @@
 use Rattle.std.proofs.Common.{rules}
 use Rattle.std.proofs.lemmas.Result.{on_err_weaker}
-use Rattle.mesh_outside.proofs.Cuts.{nothing_appended}
+use Rattle.mesh_outside.proofs.Prefixes.{nothing_appended}
 use Rattle.mesh_outside.proofs.Exits.{always_on_err}
 use Rattle.mesh_outside.proofs.mem_depot.MemDepotDepot.append.Goals as goal
 

@@ -1,0 +1,125 @@
+ghost use Rattle.std.specs.Prelude.{◌≡◌, ℕ, ◌≤◌, true, List, map, string_bytes};
+ghost use Rattle.std.specs.Option.{ForSome};
+ghost use Rattle.problem_set.specs.SettingsOf.{settings_of};
+ghost use Rattle.dense_model.specs.OfProblem.{is_built};
+ghost use Rattle.mesh_outside.specs.Fault.{Rose};
+ghost use Rattle.mesh_outside.specs.Gained.{IsClosed};
+ghost use Rattle.mesh_words.specs.Arguments.{arguments_of};
+ghost use Rattle.mesh_words.specs.Seen.{seen_arguments};
+ghost use Rattle.mesh_input.specs.Input.{seen_input};
+ghost use Rattle.mesh_cli.specs.Verdicts.{verdict_on};
+ghost use Rattle.mesh_cli.specs.Ends.{EndsAccepted, EndsBy, EndsWith, RunEnds};
+ghost use Rattle.mesh_cli.specs.Outcomes.{outcome_of_fault, outcome_of_usage};
+
+use dense_model::is_built;
+use mesh_driver::{DriveFault, drive};
+use mesh_input::{Input, InputFault, Refusal, accept_file};
+use mesh_outcome::Outcome;
+use mesh_outside::Depot;
+use mesh_words::{Arguments, UsageFault, read_arguments};
+use problem_set::Problem;
+use std::alloc::Global;
+
+/// How a call with these words ends, before that is printed.
+pub fn outcome_of<D: Depot>(alloc: Global, words: &[String], depot: &mut D) -> Outcome
+    requires { ForSome (D.written depot.old) IsClosed }
+    ensures ends { EndsWith (arguments_of (map string_bytes words.now)) result (D.inputs depot.old) (λ name. Rose (D.read_faults depot.old name) (D.read_faults depot.new name)) (Rose (D.write_faults depot.old) (D.write_faults depot.new)) (D.written depot.old) (D.written depot.new) }
+    ensures inputs { D.inputs depot.new ≡ D.inputs depot.old }
+{
+    match read_arguments(alloc, words) {
+        Ok(arguments) => outcome_of_arguments(alloc, &arguments, depot),
+        Err(fault) => outcome_of_usage(fault),
+    }
+}
+
+// How a call ends whose words are refused.
+fn outcome_of_usage(fault: UsageFault) -> Outcome
+    ensures { result ≡ outcome_of_usage fault }
+{
+    match fault {
+        UsageFault::NoMemory => Outcome::NoMemory,
+        fault => Outcome::Usage { fault },
+    }
+}
+
+// How a call whose words are accepted ends.
+fn outcome_of_arguments<'a, D: Depot>(
+    alloc: Global,
+    arguments: &Arguments<'a>,
+    depot: &mut D,
+) -> Outcome
+    requires { ForSome (D.written depot.old) IsClosed }
+    ensures ends { EndsAccepted (seen_arguments arguments.now) result (D.inputs depot.old) (Rose (D.read_faults depot.old arguments.now.input.now) (D.read_faults depot.new arguments.now.input.now)) (Rose (D.write_faults depot.old) (D.write_faults depot.new)) (D.written depot.old) (D.written depot.new) }
+    ensures inputs { D.inputs depot.new ≡ D.inputs depot.old }
+{
+    match accept_file(
+        alloc,
+        depot,
+        arguments.input,
+        arguments.overrides.as_slice(),
+    ) {
+        Ok(input) => outcome_of_input(alloc, input, arguments.prints_deck, arguments.prefix, depot),
+        Err(fault) => outcome_of_fault(fault),
+    }
+}
+
+// How a call ends that has no input.
+fn outcome_of_fault(fault: InputFault) -> Outcome
+    ensures { result ≡ outcome_of_fault fault }
+{
+    match fault {
+        InputFault::Refused { refusal } => Outcome::Refused { refusal },
+        InputFault::ReadFault => Outcome::ReadFault,
+        InputFault::NoMemory => Outcome::NoMemory,
+    }
+}
+
+// Lists the deck of an accepted input, or runs its problem.
+fn outcome_of_input<D: Depot>(
+    alloc: Global,
+    input: Input,
+    listed: bool,
+    prefix: &str,
+    depot: &mut D,
+) -> Outcome
+    requires { ForSome (D.written depot.old) IsClosed }
+    ensures ends { EndsBy prefix.now (verdict_on listed (seen_input input)) result (Rose (D.write_faults depot.old) (D.write_faults depot.new)) (D.written depot.old) (D.written depot.new) }
+    ensures inputs { D.inputs depot.new ≡ D.inputs depot.old }
+    ensures writes_later { D.write_faults depot.old ≤ D.write_faults depot.new }
+    ensures reads_later { (name : List ℕ) → D.read_faults depot.old name ≤ D.read_faults depot.new name }
+{
+    if listed {
+        return Outcome::Listed { deck: input.deck };
+    }
+    if !is_built(&input.problem) {
+        return Outcome::Refused {
+            refusal: Refusal::NotBuilt,
+        };
+    }
+    outcome_of_run(alloc, &input.problem, prefix, depot)
+}
+
+// Runs a problem that is built.
+fn outcome_of_run<D: Depot>(
+    alloc: Global,
+    problem: &Problem,
+    prefix: &str,
+    depot: &mut D,
+) -> Outcome
+    requires built { is_built (settings_of problem.now) ≡ true }
+    requires closed { ForSome (D.written depot.old) IsClosed }
+    ensures ends { RunEnds (settings_of problem.now) prefix.now result (Rose (D.write_faults depot.old) (D.write_faults depot.new)) (D.written depot.old) (D.written depot.new) }
+    ensures inputs { D.inputs depot.new ≡ D.inputs depot.old }
+    ensures writes_later { D.write_faults depot.old ≤ D.write_faults depot.new }
+    ensures reads_later { (name : List ℕ) → D.read_faults depot.old name ≤ D.read_faults depot.new name }
+{
+    match drive(alloc, problem, prefix, depot) {
+        Ok(end) => Outcome::Done {
+            cycles: end.cycles,
+            blocks: end.blocks,
+            total: end.total,
+        },
+        Err(DriveFault::WriteFault) => Outcome::WriteFault,
+        Err(DriveFault::NoMemory) => Outcome::NoMemory,
+    }
+}

@@ -1,0 +1,68 @@
+ghost use Rattle.std.specs.Prelude.{map};
+ghost use Rattle.input_file.specs.Overrides.{overridden};
+ghost use Rattle.problem_set.specs.SettingsOf.{settings_of};
+ghost use Rattle.mesh_input.specs.Input.{accepted_input, deck_read, or_override_fault, overridden_by, problem_read};
+ghost use Rattle.mesh_input.specs.Input.{Answers, seen_input};
+
+use crate::fault::{InputFault, stop_of_deck, stop_of_override, stop_of_problem};
+use input_file::{Deck, parse};
+use problem_set::{Problem, read_problem};
+use std::alloc::Global;
+
+/// An accepted input: the deck with its overrides, and the problem that it gives.
+#[derive(Drop)]
+pub struct Input {
+    pub deck: Deck,
+    pub problem: Problem,
+}
+
+/// The input that the bytes of a file and the overrides give. The first fault is answered: that of
+/// the bytes, then that of the first word that is no override, then that of the problem.
+pub fn accept_bytes(alloc: Global, bytes: &[u8], overrides: &[&str]) -> Result<Input, InputFault>
+    ensures { Answers seen_input result (accepted_input bytes.now (map (λ t. t.now) overrides.now)) }
+{
+    let mut deck = read_deck(alloc, bytes)?;
+    apply_all(&mut deck, overrides)?;
+    let problem = problem_of(alloc, &deck)?;
+    Ok(Input { deck, problem })
+}
+
+// The deck of some bytes.
+fn read_deck(alloc: Global, bytes: &[u8]) -> Result<Deck, InputFault>
+    ensures { Answers (λ d. d) result (deck_read bytes.now) }
+{
+    match parse(alloc, bytes) {
+        Ok(deck) => Ok(deck),
+        Err(fault) => Err(stop_of_deck(fault)),
+    }
+}
+
+// Sets the overrides in their order.
+fn apply_all(deck: &mut Deck, overrides: &[&str]) -> Result<(), InputFault>
+    ensures { Answers (λ _. deck.new) result (overridden_by 1 deck.old (map (λ t. t.now) overrides.now)) }
+{
+    for (i, word) in overrides.iter().enumerate() {
+        apply_one(deck, i + 1, word)?;
+    }
+    Ok(())
+}
+
+// Sets the override of this number.
+fn apply_one(deck: &mut Deck, number: usize, word: &str) -> Result<(), InputFault>
+    ensures { Answers (λ _. deck.new) result (or_override_fault number (overridden deck.old word.now)) }
+{
+    match deck.apply(word) {
+        Ok(()) => Ok(()),
+        Err(fault) => Err(stop_of_override(number, fault)),
+    }
+}
+
+// The problem of a deck.
+fn problem_of(alloc: Global, deck: &Deck) -> Result<Problem, InputFault>
+    ensures { Answers settings_of result (problem_read deck.now) }
+{
+    match read_problem(alloc, deck) {
+        Ok(problem) => Ok(problem),
+        Err(fault) => Err(stop_of_problem(fault)),
+    }
+}

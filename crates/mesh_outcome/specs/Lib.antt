@@ -1,0 +1,5 @@
+pub mod Lines
+pub mod Outcome
+pub mod Printing
+pub mod RefusalWords
+pub mod Status
