@@ -1,3 +1,5 @@
 pub mod Flags
 pub mod Fields
 pub mod Registered
+pub mod Flow
+pub mod Kernel

@@ -5,18 +5,25 @@
 //! by one and numbers their fields in the order of adding. It keeps that no two packages have one
 //! name, that no two fields have one label, that each flag set is permitted, and that there are at
 //! most 256 fields.
+//!
+//! A [`Flow`] tells what changes the total of a field in a cycle, and a [`CellKernel`] is a reaction
+//! of the fields of a cell, with the laws that each of them keeps.
 #![tactic(auto)]
 
 mod fault;
 mod field;
 mod flag;
+mod flow;
 mod items;
+mod kernel;
 mod name;
 mod registry;
 
 pub use fault::{FieldFault, NoMemory};
 pub use field::{Field, Fields, Package};
 pub use flag::{Flag, Flags, has_flag, is_permitted};
+pub use flow::{Flow, Flows, balances};
 pub use items::Items;
+pub use kernel::CellKernel;
 pub use name::Name;
 pub use registry::Registry;
