@@ -17,3 +17,8 @@ pub mod Fit
 pub mod Due
 pub mod Texts
 pub mod Files
+pub mod WorkedSettings
+pub mod WorkedMeshes
+pub mod WorkedFaces
+pub mod WorkedCycles
+pub mod WorkedRuns
