@@ -9,9 +9,10 @@ use Rattle.morton_order.proofs.Family.{child-parent, child_inside, child_number_
 use Rattle.morton_order.proofs.Touching.{touching_back}
 use Rattle.morton_order.proofs.Crossing.{across-back, across-half, across-parent, across-sibling, across-touches, crossed_level}
 use Rattle.block_tree.specs.Tree.{IsBalanced, IsLeaf, IsTree, ancestor, is_node}
-use Rattle.block_tree.specs.Behind.{BehindIsExact, BehindIsMutual, IsAtEdge, Names, TouchesSide, behind, behind_at, children_at, coarse, fine, is_high_half, same}
+use Rattle.block_tree.specs.Behind.{BehindIsExact, BehindIsMutual, Names, behind, behind_at, children_at, coarse, fine, is_high_half, same}
 use Rattle.block_tree.proofs.Ancestors.{ancestor_add, ancestor_inner, ancestor_inside, ancestor_level, ancestor_more, either_half, half-is, is_parity, node_parent, not_node, parent_node, parity, parity_other}
 use Rattle.block_tree.proofs.Chosen.{found, has}
+use Rattle.block_tree.proofs.Sides.{Crosses, IsAtEdge, crosses_of, touches_of}
 
 -- an edge, by the half that each location on the way is
 record AtEdge (dims axis : ℕ) (high : Bool) (up : ℕ) (c l : Loc) : Type 0 where
@@ -113,7 +114,7 @@ record Setting (s : Shape) (inner : Loc → Bool) (l : Loc) (axis : ℕ) : Type 
 -- what is named is a leaf that touches
 record Is (s : Shape) (inner : Loc → Bool) (l m : Loc) (axis : ℕ) (high : Bool) : Type 0 where
   leaf : IsLeaf s inner m
-  touches : TouchesSide s axis high l m
+  touches : Crosses s axis high l m
 
 -- a child of an inner node across a side
 named_fine : (s : Shape) (inner : Loc → Bool) (l o : Loc) (axis j : ℕ) (high : Bool) → Setting s inner l axis → across s l axis high ≡ Some o → inner o ≡ true → j < parts s.dims → is_high_half j axis ≡ not high → Is s inner l (child s.dims o j) axis high
@@ -211,7 +212,7 @@ named s inner l m axis high set None meet h = absurd h
 named s inner l m axis high set (Some o) meet h = named_by s inner l o m axis high set meet (inner o) (is_node s inner o) refl refl h
 
 -- the levels of what touches
-record Levels (s : Shape) (axis : ℕ) (high : Bool) (l m : Loc) (t : TouchesSide s axis high l m) : Type 0 where
+record Levels (s : Shape) (axis : ℕ) (high : Bool) (l m : Loc) (t : Crosses s axis high l m) : Type 0 where
   enough : t.up ≤ t.c.level
   enough_over : t.over ≤ t.d.level
   top : ancestor s.dims t.up t.c ≡ l
@@ -219,7 +220,7 @@ record Levels (s : Shape) (axis : ℕ) (high : Bool) (l m : Loc) (t : TouchesSid
   same_level : t.d.level ≡ t.c.level
   d_inside : IsIn s t.d
 
-levels_of : (s : Shape) (inner : Loc → Bool) (axis : ℕ) (high : Bool) (l m : Loc) → Setting s inner l axis → (t : TouchesSide s axis high l m) → Levels s axis high l m t
+levels_of : (s : Shape) (inner : Loc → Bool) (axis : ℕ) (high : Bool) (l m : Loc) → Setting s inner l axis → (t : Crosses s axis high l m) → Levels s axis high l m t
 levels_of s inner axis high l m set t =
     let most = set.shape.most in
     let a = at_edge s.dims axis high t.up t.c l t.here in
@@ -245,7 +246,7 @@ names_from s inner l o m axis high b n crosses io none_node h =
     (subst (λ (v : Bool). Names (cond b (fine (map (child s.dims o) (children_at s.dims axis (not high)))) (cond v (same o) (coarse (parent s.dims o)))) m) (sym none_node) h))
 
 -- below the top each location on the far side of a crossing from an edge is the near half
-far_half : (s : Shape) (inner : Loc → Bool) (l m : Loc) (axis : ℕ) (high : Bool) → Setting s inner l axis → (t : TouchesSide s axis high l m) → (k : ℕ) → k < t.up → is_high_half (child_number s.dims (ancestor s.dims k t.d)) axis ≡ not high
+far_half : (s : Shape) (inner : Loc → Bool) (l m : Loc) (axis : ℕ) (high : Bool) → Setting s inner l axis → (t : Crosses s axis high l m) → (k : ℕ) → k < t.up → is_high_half (child_number s.dims (ancestor s.dims k t.d)) axis ≡ not high
 far_half s inner l m axis high set t k less =
     let v = levels_of s inner axis high l m set t in
     let enough = v.enough in
@@ -260,7 +261,7 @@ far_half s inner l m axis high set t k less =
     half-is s.dims d axis set.shape.least set.shape.most set.used ∙ is_parity (axis_of d axis) high pair.1
 
 -- a finer leaf that touches is a child of the location across
-found_finer : (s : Shape) (inner : Loc → Bool) (l m : Loc) (axis : ℕ) (high : Bool) → Setting s inner l axis → IsLeaf s inner m → (t : TouchesSide s axis high l m) → (e : ℕ) → t.up ≡ t.over + suc e → Names (behind s inner l axis high) m
+found_finer : (s : Shape) (inner : Loc → Bool) (l m : Loc) (axis : ℕ) (high : Bool) → Setting s inner l axis → IsLeaf s inner m → (t : Crosses s axis high l m) → (e : ℕ) → t.up ≡ t.over + suc e → Names (behind s inner l axis high) m
 found_finer s inner l m axis high set leaf t zero more =
     let v = levels_of s inner axis high l m set t in
     let enough = v.enough in
@@ -298,7 +299,7 @@ found_finer s inner l m axis high set leaf t (suc e) more =
     let top : ancestor s.dims e r ≡ l = ap (ancestor s.dims e) (sym (ancestor_more s.dims (suc t.over) t.c)) ∙ sym (ancestor_add s.dims (suc (suc t.over)) e t.c) ∙ ap (λ k. ancestor s.dims k t.c) (sym split) ∙ v.top in
     absurd (leaf_above s inner set.tree e r l set.leaf (omega arith) top iq)
 
-found_same : (s : Shape) (inner : Loc → Bool) (l m : Loc) (axis : ℕ) (high : Bool) → Setting s inner l axis → IsLeaf s inner m → (t : TouchesSide s axis high l m) → t.up ≡ t.over → Names (behind s inner l axis high) m
+found_same : (s : Shape) (inner : Loc → Bool) (l m : Loc) (axis : ℕ) (high : Bool) → Setting s inner l axis → IsLeaf s inner m → (t : Crosses s axis high l m) → t.up ≡ t.over → Names (behind s inner l axis high) m
 found_same s inner l m axis high set leaf t more =
     let v = levels_of s inner axis high l m set t in
     let o : Loc = ancestor s.dims t.up t.d in
@@ -319,7 +320,7 @@ coarser_is s inner l m o axis high set leaf crosses none (suc e) few top =
     let im = strict_inner s inner set.tree e (parent s.dims o) node (omega arith) in
     absurd (leaf.outer (ap inner (sym top) ∙ im))
 
-found_coarser : (s : Shape) (inner : Loc → Bool) (l m : Loc) (axis : ℕ) (high : Bool) → Setting s inner l axis → IsLeaf s inner m → (t : TouchesSide s axis high l m) → (e : ℕ) → t.over ≡ t.up + suc e → Names (behind s inner l axis high) m
+found_coarser : (s : Shape) (inner : Loc → Bool) (l m : Loc) (axis : ℕ) (high : Bool) → Setting s inner l axis → IsLeaf s inner m → (t : Crosses s axis high l m) → (e : ℕ) → t.over ≡ t.up + suc e → Names (behind s inner l axis high) m
 found_coarser s inner l m axis high set leaf t e more =
     let v = levels_of s inner axis high l m set t in
     let enough = v.enough_over in
@@ -335,7 +336,7 @@ found_coarser s inner l m axis high set leaf t e more =
 pub further : (a b : ℕ) → a < b → (e : ℕ) × (b ≡ a + suc e)
 further a b h = (b - a - 1, omega arith)
 
-found_any : (s : Shape) (inner : Loc → Bool) (l m : Loc) (axis : ℕ) (high : Bool) → Setting s inner l axis → IsLeaf s inner m → TouchesSide s axis high l m → Names (behind s inner l axis high) m
+found_any : (s : Shape) (inner : Loc → Bool) (l m : Loc) (axis : ℕ) (high : Bool) → Setting s inner l axis → IsLeaf s inner m → Crosses s axis high l m → Names (behind s inner l axis high) m
 found_any s inner l m axis high set leaf t = elim (cases_order t.up t.over) [
   | inl e ↦ found_same s inner l m axis high set leaf t e
   | inr other ↦ elim other [
@@ -347,12 +348,12 @@ found_any s inner l m axis high set leaf t = elim (cases_order t.up t.over) [
 pub behind_is_exact : BehindIsExact
 behind_is_exact s inner shape tree balanced l m axis high leaf used =
     let set : Setting s inner l axis = record { shape = shape; tree = tree; balanced = balanced; leaf = leaf; used = used } in (
-      λ h. let is = named s inner l m axis high set (across s l axis high) refl h in (is.leaf, is.touches),
-      λ (other, t). found_any s inner l m axis high set other t,
+      λ h. let is = named s inner l m axis high set (across s l axis high) refl h in (is.leaf, touches_of s l m axis high shape used is.touches),
+      λ (other, t). found_any s inner l m axis high set other (crosses_of s l m axis high shape used leaf.inside other.inside t),
     )
 
 -- to touch is mutual
-turned : (s : Shape) (inner : Loc → Bool) (l m : Loc) (axis : ℕ) (high : Bool) → Setting s inner l axis → TouchesSide s axis high l m → TouchesSide s axis (not high) m l
+turned : (s : Shape) (inner : Loc → Bool) (l m : Loc) (axis : ℕ) (high : Bool) → Setting s inner l axis → Crosses s axis high l m → Crosses s axis (not high) m l
 turned s inner l m axis high set t =
     let most = set.shape.most in
     let v = levels_of s inner axis high l m set t in

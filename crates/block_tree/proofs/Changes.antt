@@ -8,11 +8,10 @@ use Rattle.morton_order.specs.Neighbours.{AreNeighbours}
 use Rattle.morton_order.proofs.Crossing.{parents_touch}
 use Rattle.morton_order.proofs.Family.{child-parent, child_number_below, inside-is, is-inside, parent_inside}
 use Rattle.block_tree.specs.Tree.{IsBalanced, IsLeaf, IsTree, ancestor, is_node}
-use Rattle.block_tree.specs.Least.{HoldsWanted, MayBeWanted, least}
+use Rattle.block_tree.specs.Least.{HoldsWanted, IsLeast}
 use Rattle.block_tree.specs.Change.{ChangesByOneLevel, IsChange}
 use Rattle.block_tree.proofs.Ancestors.{ancestor_level, ancestor_more, node_parent, parent_node, root_node}
 use Rattle.block_tree.proofs.Behinds.{strict_inner}
-use Rattle.block_tree.proofs.Forced.{least_is_least}
 
 -- the nodes of the old tree that have room for children
 abbrev grown : Shape → (Loc → Bool) → Loc → Bool
@@ -72,45 +71,43 @@ grown_balanced s old tree balanced l m h there near = elim (cases_eq m.level 0) 
 ]
 
 -- the old nodes hold all that a change wants
-grown_holds : (finest : ℕ) (s : Shape) (old wanted : Loc → Bool) → finest < 10 → MayBeWanted finest s wanted → IsChange s old wanted → HoldsWanted s wanted (grown s old)
-grown_holds finest s old wanted few may change = record {
+grown_holds : (s : Shape) (old wanted next : Loc → Bool) → IsChange s old wanted → IsLeast s wanted next → HoldsWanted s wanted (grown s old)
+grown_holds s old wanted next change least = record {
   tree = grown_tree s old change.tree;
   balanced = grown_balanced s old change.tree change.balanced;
-  holds = λ l h. let m = may l h in let coarse = m.1 in is-grown s old l (record { inside = m.0; room = omega arith; node = held l h });
+  holds = λ l h. let n = least.one_of.holds l h in is-grown s old l (record { inside = least.one_of.tree.inside l n; room = least.one_of.tree.above_finest l n; node = held l h });
 }
   where
     held : (l : Loc) → wanted l ≡ true → is_node s old l ≡ true
     held l h = elim (change.of_old l h) [ inl is ↦ inner_node s old change.tree l is | inr leaf ↦ leaf.node ]
 
 -- a new leaf in an old one is it, or a child of it
-finer : (finest : ℕ) (s : Shape) (old wanted : Loc → Bool) → IsShape s → finest < 10 → MayBeWanted finest s wanted → IsChange s old wanted → (before after : Loc) → IsLeaf s old before → IsLeaf s (least finest s wanted) after → (k : ℕ) → k ≤ after.level → ancestor s.dims k after ≡ before → after.level ≤ before.level + 1
-finer finest s old wanted shape few may change before after leaf new zero enough is = let e = ap (λ (v : Loc). v.level) is in omega arith
-finer finest s old wanted shape few may change before after leaf new (suc zero) enough is = let e = ap (λ (v : Loc). v.level) is in omega arith
-finer finest s old wanted shape few may change before after leaf new (suc (suc k)) enough is =
-    let l = least_is_least finest s wanted shape few may in
+finer : (s : Shape) (old wanted next : Loc → Bool) → IsChange s old wanted → IsLeast s wanted next → (before after : Loc) → IsLeaf s old before → IsLeaf s next after → (k : ℕ) → k ≤ after.level → ancestor s.dims k after ≡ before → after.level ≤ before.level + 1
+finer s old wanted next change least before after leaf new zero enough is = let e = ap (λ (v : Loc). v.level) is in omega arith
+finer s old wanted next change least before after leaf new (suc zero) enough is = let e = ap (λ (v : Loc). v.level) is in omega arith
+finer s old wanted next change least before after leaf new (suc (suc k)) enough is =
     let p : Loc = parent s.dims after in
-    let ip = node_parent s (least finest s wanted) after (omega arith) new.node in
-    let g = grown-is s old p (l.within (grown s old) (grown_holds finest s old wanted few may change) p ip) in
+    let ip = node_parent s next after (omega arith) new.node in
+    let g = grown-is s old p (least.within (grown s old) (grown_holds s old wanted next change least) p ip) in
     absurd (leaf.outer (ap old (sym is) ∙ strict_inner s old change.tree k p g.node (omega arith)))
 
 -- an old leaf in a new one is it, or was a child of it
-coarser : (finest : ℕ) (s : Shape) (old wanted : Loc → Bool) → IsShape s → finest < 10 → MayBeWanted finest s wanted → IsChange s old wanted → (before after : Loc) → IsLeaf s old before → IsLeaf s (least finest s wanted) after → (k : ℕ) → k ≤ before.level → ancestor s.dims k before ≡ after → before.level ≤ after.level + 1
-coarser finest s old wanted shape few may change before after leaf new zero enough is = let e = ap (λ (v : Loc). v.level) is in omega arith
-coarser finest s old wanted shape few may change before after leaf new (suc zero) enough is = let e = ap (λ (v : Loc). v.level) is in omega arith
-coarser finest s old wanted shape few may change before after leaf new (suc (suc k)) enough is =
-    let l = least_is_least finest s wanted shape few may in
+coarser : (s : Shape) (old wanted next : Loc → Bool) → IsShape s → IsChange s old wanted → IsLeast s wanted next → (before after : Loc) → IsLeaf s old before → IsLeaf s next after → (k : ℕ) → k ≤ before.level → ancestor s.dims k before ≡ after → before.level ≤ after.level + 1
+coarser s old wanted next shape change least before after leaf new zero enough is = let e = ap (λ (v : Loc). v.level) is in omega arith
+coarser s old wanted next shape change least before after leaf new (suc zero) enough is = let e = ap (λ (v : Loc). v.level) is in omega arith
+coarser s old wanted next shape change least before after leaf new (suc (suc k)) enough is =
     let q : Loc = ancestor s.dims (suc k) before in
     let q_level = ancestor_level s.dims (suc k) before (omega arith) in
     let q_inner : old q ≡ true = strict_inner s old change.tree k before leaf.node (omega arith) in
     let top : parent s.dims q ≡ after = sym (ancestor_more s.dims (suc k) before) ∙ is in
     let old_after : old after ≡ true = ap old (sym top) ∙ change.tree.closed q q_inner (omega arith) in
-    let unwanted : wanted after ≡ true → ⊥ = λ w. new.outer (l.one_of.holds after w) in
+    let unwanted : wanted after ≡ true → ⊥ = λ w. new.outer (least.one_of.holds after w) in
     let child_leaf = change.merged after old_after unwanted (child_number s.dims q) (child_number_below s.dims q shape.least shape.most) in
     let q_is : child s.dims after (child_number s.dims q) ≡ q = ap (λ (v : Loc). child s.dims v (child_number s.dims q)) (sym top) ∙ child-parent s.dims q (omega arith) in
     absurd (child_leaf.outer (ap old q_is ∙ q_inner))
 
 pub changes_by_one_level : ChangesByOneLevel
-changes_by_one_level finest s old wanted shape few may change before after leaf new = (
-  λ lies. finer finest s old wanted shape few may change before after leaf new lies.levels lies.enough lies.is,
-  λ lies. coarser finest s old wanted shape few may change before after leaf new lies.levels lies.enough lies.is,
+changes_by_one_level s old wanted next shape change least before after leaf new = (
+  λ lies. finer s old wanted next change least before after leaf new lies.levels lies.enough lies.is,
+  λ lies. coarser s old wanted next shape change least before after leaf new lies.levels lies.enough lies.is,
 )

@@ -1,9 +1,9 @@
 -- What is behind a side of a leaf.
-use Rattle.std.specs.Prelude.{◌≡◌, ◌==◌, ℕ, zero, suc, ◌/◌, ◌%◌, ◌<◌, ◌≤◌, Bool, cond, not, Option, Some, None, List, Contains, map, ◌↔◌}
+use Rattle.std.specs.Prelude.{◌≡◌, ◌==◌, ◌⊎◌, ℕ, zero, suc, ◌+◌, ◌-◌, ◌*◌, ◌/◌, ◌%◌, ◌^◌, ◌<◌, Bool, true, false, cond, not, IsTrue, Option, Some, None, List, Contains, map, ◌↔◌}
 use Rattle.std.specs.List.{filter, range_with_len}
 use Rattle.morton_order.specs.declared.space.Loc.{Loc}
 use Rattle.morton_order.specs.declared.space.Shape.{Shape}
-use Rattle.morton_order.specs.Space.{IsIn, IsShape, child, child_number, parent, parts}
+use Rattle.morton_order.specs.Space.{IsShape, axis_of, blocks_along, child, parent, parts, wraps}
 use Rattle.morton_order.specs.Neighbours.{across}
 use Rattle.block_tree.specs.Tree.{IsBalanced, IsLeaf, IsTree, is_node}
 
@@ -40,21 +40,30 @@ Names (same o) m = m ≡ o
 Names (coarse o) m = m ≡ o
 Names (fine os) m = Contains os m
 
--- a location that many levels below another, at a side of it
-abbrev pub IsAtEdge : ℕ → ℕ → Bool → ℕ → Loc → Loc → Type 0
-IsAtEdge dims axis high zero c l = c ≡ l
-IsAtEdge dims axis high (suc levels) c l = (1 ≤ c.level) × (is_high_half (child_number dims c) axis ≡ high) × IsAtEdge dims axis high levels (parent dims c) l
+-- where a location begins and where it ends along an axis in use, on the lattice of level 10: a root, the first along its axis, from 0 to 1024
+abbrev pub low_end : Loc → ℕ → ℕ
+low_end l axis = axis_of l axis * 2 ^ (10 - l.level)
 
--- a location touches a side of another: on some level, a part of the one at that side lies across from a part of the other
+abbrev pub high_end : Loc → ℕ → ℕ
+high_end l axis = (axis_of l axis + 1) * 2 ^ (10 - l.level)
+
+-- the high face of one location and the low face of another lie in one plane, also round the end of an axis that wraps
+abbrev pub MeetInPlane : Shape → ℕ → Loc → Loc → Type 0
+MeetInPlane s axis l m = (high_end l axis ≡ low_end m axis) ⊎ (IsTrue (wraps s axis) × (high_end l axis ≡ blocks_along s axis 10) × (low_end m axis ≡ 0))
+
+-- the face at a side of one location and the opposite face of another lie in one plane
+abbrev pub IsOnePlane : Shape → ℕ → Bool → Loc → Loc → Type 0
+IsOnePlane s axis true l m = MeetInPlane s axis l m
+IsOnePlane s axis false l m = MeetInPlane s axis m l
+
+-- two locations have a part in common along an axis
+abbrev pub Overlap : ℕ → Loc → Loc → Type 0
+Overlap axis l m = (low_end l axis < high_end m axis) × (low_end m axis < high_end l axis)
+
+-- a location touches a side of another: their faces lie in one plane and overlap along the other axes
 pub record TouchesSide (s : Shape) (axis : ℕ) (high : Bool) (l m : Loc) : Type 0 where
-  pub up : ℕ
-  pub over : ℕ
-  pub c : Loc
-  pub d : Loc
-  pub inside : IsIn s c
-  pub here : IsAtEdge s.dims axis high up c l
-  pub there : IsAtEdge s.dims axis (not high) over d m
-  pub meet : across s c axis high ≡ Some d
+  pub plane : IsOnePlane s axis high l m
+  pub overlap : (other : ℕ) → other < s.dims → ¬ (other ≡ axis) → Overlap other l m
 
 -- what is named behind a side of a leaf of a balanced tree is exactly the leaves that touch the side
 abbrev pub BehindIsExact : Type 0

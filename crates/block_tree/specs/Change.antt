@@ -4,7 +4,7 @@ use Rattle.morton_order.specs.declared.space.Loc.{Loc}
 use Rattle.morton_order.specs.declared.space.Shape.{Shape}
 use Rattle.morton_order.specs.Space.{IsShape, child, parts}
 use Rattle.block_tree.specs.Tree.{IsBalanced, IsLeaf, IsTree, LiesIn}
-use Rattle.block_tree.specs.Least.{MayBeWanted, least}
+use Rattle.block_tree.specs.Least.{IsLeast}
 
 -- what a change of a balanced tree wants: only old inner nodes and leaves, and all old inner nodes but such whose children are all leaves
 pub record IsChange (s : Shape) (old wanted : Loc → Bool) : Type 0 where
@@ -15,6 +15,6 @@ pub record IsChange (s : Shape) (old wanted : Loc → Bool) : Type 0 where
 
 -- each leaf of the least tree that follows differs by at most one level from each old leaf that it meets
 abbrev pub ChangesByOneLevel : Type 0
-ChangesByOneLevel = (finest : ℕ) (s : Shape) (old wanted : Loc → Bool) → IsShape s → finest < 10 → MayBeWanted finest s wanted → IsChange s old wanted →
-    (before after : Loc) → IsLeaf s old before → IsLeaf s (least finest s wanted) after →
+ChangesByOneLevel = (s : Shape) (old wanted next : Loc → Bool) → IsShape s → IsChange s old wanted → IsLeast s wanted next →
+    (before after : Loc) → IsLeaf s old before → IsLeaf s next after →
     (LiesIn s.dims after before → after.level ≤ before.level + 1) × (LiesIn s.dims before after → before.level ≤ after.level + 1)

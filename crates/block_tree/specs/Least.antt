@@ -1,5 +1,5 @@
 -- The least balanced tree that holds what is wanted: as a relation, and level by level.
-use Rattle.std.specs.Prelude.{ℕ, zero, suc, ◌+◌, ◌-◌, ◌*◌, ◌^◌, ◌<◌, ◌≤◌, Bool, ◌&&◌, ◌||◌, nat_lt, nat_le, List, ◌∷◌, IsTrue, slice_index}
+use Rattle.std.specs.Prelude.{ℕ, zero, suc, ◌+◌, ◌-◌, ◌*◌, ◌^◌, ◌<◌, ◌≤◌, Bool, ◌&&◌, ◌||◌, nat_lt, nat_le, List, ◌∷◌, All, IsTrue, slice_index}
 use Rattle.std.specs.List.{list_any, list_all, range_with_len}
 use Rattle.morton_order.specs.declared.space.Loc.{Loc}
 use Rattle.morton_order.specs.declared.space.Shape.{Shape}
@@ -45,10 +45,19 @@ LeastIsLeast = (finest : ℕ) (s : Shape) (wanted : Loc → Bool) → IsShape s 
 abbrev pub meets_along : ℕ → ℕ → ℕ → ℕ → ℕ → Bool
 meets_along n level x lo hi = nat_lt (x * n) ((hi + 1) * 2 ^ level) && nat_lt (lo * 2 ^ level) ((x + 1) * n)
 
--- whether a location meets a static box
-abbrev pub meets : ℕ → List ℕ → StaticBox → Loc → Bool
-meets dims cells b l = list_all (λ axis. meets_along (slice_index cells axis) l.level (axis_of l axis) (slice_index b.lo axis) (slice_index b.hi axis)) (range_with_len 0 dims)
+-- whether a location meets a static box along each axis in use
+abbrev pub meets : Shape → List ℕ → StaticBox → Loc → Bool
+meets s cells b l = list_all (λ axis. meets_along (slice_index cells axis) l.level (axis_of l axis) (slice_index b.lo axis) (slice_index b.hi axis)) (range_with_len 0 s.dims)
 
--- whether static boxes want a location refined: it meets one of a greater level
-abbrev pub wanted_by : ℕ → List ℕ → List StaticBox → Loc → Bool
-wanted_by dims cells boxes l = list_any (λ (b : StaticBox). nat_lt l.level b.level && meets dims cells b l) boxes
+-- whether static boxes want a location of the domain refined: it meets one of a greater level
+abbrev pub wanted_by : Shape → List ℕ → List StaticBox → Loc → Bool
+wanted_by s cells boxes l = list_any (λ (b : StaticBox). nat_lt l.level b.level && meets s cells b l) boxes && is_inside s l
+
+-- the opening tree: the least balanced one that holds what static boxes want, where none asks for a level above the finest but one
+abbrev pub opening : ℕ → Shape → List ℕ → List StaticBox → Loc → Bool
+opening finest s cells boxes = least finest s (wanted_by s cells boxes)
+
+-- the opening tree is the least balanced one that holds what static boxes want
+abbrev pub OpeningIsLeast : Type 0
+OpeningIsLeast = (finest : ℕ) (s : Shape) (cells : List ℕ) (boxes : List StaticBox) → IsShape s → finest < 10 → All (λ (b : StaticBox). b.level ≤ finest + 1) boxes →
+    IsLeast s (wanted_by s cells boxes) (opening finest s cells boxes)

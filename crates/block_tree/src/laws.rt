@@ -3,11 +3,15 @@
 ghost use Rattle.block_tree.specs.Behind.{BehindIsExact, BehindIsMutual};
 ghost use Rattle.block_tree.specs.Change.{ChangesByOneLevel};
 ghost use Rattle.block_tree.specs.Leaves.{LeavesLaw};
-ghost use Rattle.block_tree.specs.Least.{LeastIsLeast};
+ghost use Rattle.block_tree.specs.Least.{LeastIsLeast, OpeningIsLeast};
+ghost use Rattle.block_tree.specs.Next.{NextIsLeast, NextIsNear};
+ghost use Rattle.block_tree.specs.Worked.{WorkedTrees};
 
-/// The nodes that are found level by level are the least balanced tree that holds what is wanted.
+/// The nodes that are found level by level are the least balanced tree that holds what is wanted; so is the opening tree
+/// for what static boxes want.
 pub fn least_tree_law()
-    ensures { LeastIsLeast }
+    ensures least { LeastIsLeast }
+    ensures opening { OpeningIsLeast }
 {}
 
 /// What is named behind a side of a leaf is exactly the leaves that touch it, and to stand behind is mutual.
@@ -21,7 +25,18 @@ pub fn change_law()
     ensures { ChangesByOneLevel }
 {}
 
+/// The next tree is the least balanced one that holds what its tags want, and each leaf changes by at most one level.
+pub fn next_tree_laws()
+    ensures least { NextIsLeast }
+    ensures near { NextIsNear }
+{}
+
 /// The listed leaves are exactly the leaves of the tree, each once, by rising key.
 pub fn leaves_law()
     ensures { LeavesLaw }
+{}
+
+/// Small trees, worked out: what boxes want, the opening and the next tree, and what is behind a side.
+pub fn worked_trees()
+    ensures { WorkedTrees }
 {}

@@ -4,6 +4,8 @@
 
 mod boxes;
 mod laws;
+mod tags;
 
 pub use boxes::StaticBox;
-pub use laws::{behind_laws, change_law, least_tree_law, leaves_law};
+pub use laws::{behind_laws, change_law, least_tree_law, leaves_law, next_tree_laws, worked_trees};
+pub use tags::Tag;

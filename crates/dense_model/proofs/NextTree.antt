@@ -15,7 +15,7 @@ use Rattle.dense_model.specs.Rules.{Rules}
 use Rattle.dense_model.specs.Mesh.{Mesh, is_inner}
 use Rattle.dense_model.specs.LookLaws.{IsMesh}
 use Rattle.dense_model.specs.Tags.{Tag}
-use Rattle.dense_model.specs.Remesh.{is_leaf_to_merge, is_leaf_to_split, is_merge, is_split, merges, tag_at, wanted_next}
+use Rattle.dense_model.specs.Remesh.{is_leaf_to_merge, is_leaf_to_split, is_merge, is_split, merges, next_inner, tag_at, wanted_next}
 use Rattle.dense_model.specs.RemeshLaws.{FitLevels, NextTreeLaw}
 
 -- a listed leaf of a mesh is a leaf
@@ -66,9 +66,10 @@ next_tree_law rules m tags mesh fit =
     let few = fit.few in
     let small : rules.levels - 2 < 10 = omega arith in
     let wanted = may rules m tags mesh fit in
-    let by = changes_by_one_level (rules.levels - 2) m.shape (is_inner m) (wanted_next m tags) mesh.shape small wanted (change m tags mesh) in
+    let is = least_is_least (rules.levels - 2) m.shape (wanted_next m tags) mesh.shape small wanted in
+    let by = changes_by_one_level m.shape (is_inner m) (wanted_next m tags) (next_inner rules m tags) mesh.shape (change m tags mesh) is in
     record {
-      least = least_is_least (rules.levels - 2) m.shape (wanted_next m tags) mesh.shape small wanted;
+      least = is;
       finer = λ before after leaf new. (by before after leaf new).0;
       coarser = λ before after leaf new. (by before after leaf new).1;
     }

@@ -192,8 +192,8 @@ inner_are s inner row outer =
     ap (flat_map (inner_below 10 s.dims inner)) (roots_are s row)
     ∙ ap (λ (b : Bool). (cond b (origin ∷ []) [] ++ pieces b (parts s.dims) (λ j. inner_below 9 s.dims inner (child s.dims origin j)) []) ++ []) outer
 
-wants_none : (p : Settings) → p.statics ≡ [] → (l : Loc) → wanted_by p.shape.dims p.cells (map static_of p.statics) l ≡ false
-wants_none p none l = ap (λ (ss : List StaticAt). wanted_by p.shape.dims p.cells (map static_of ss) l) none
+wants_none : (p : Settings) → p.statics ≡ [] → (l : Loc) → wanted_by p.shape p.cells (map static_of p.statics) l ≡ false
+wants_none p none l = ap (λ (ss : List StaticAt). wanted_by p.shape p.cells (map static_of ss) l) none
 
 outer_ends : (a b c : Bool) → c ≡ false → (a && (b && c)) ≡ false
 outer_ends true true c e = e
@@ -204,7 +204,7 @@ outer_root : (p : Settings) → p.statics ≡ [] → p.levels ≡ 1 → opening_
 outer_root p none one =
     let k : p.levels - 2 ≡ 0 = omega arith in
     outer_ends (is_inside p.shape origin) (nat_le 0 (p.levels - 2)) _
-    (ap (λ (n : ℕ). forced n p.shape (wanted_by p.shape.dims p.cells (map static_of p.statics)) origin) (omega arith) ∙ forced_none 0 p.shape _ origin (wants_none p none) refl)
+    (ap (λ (n : ℕ). forced n p.shape (wanted_by p.shape p.cells (map static_of p.statics)) origin) (omega arith) ∙ forced_none 0 p.shape _ origin (wants_none p none) refl)
 
 -- what a problem of one block along one axis says
 pub record IsOneRow (p : Settings) : Type 0 where

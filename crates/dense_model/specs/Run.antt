@@ -44,7 +44,7 @@ root_mesh opening fields = filled (record { shape = opening.shape; cells = openi
 
 -- the inner nodes at the start: the least balanced tree that the static boxes want
 abbrev pub opening_inner : Rules → Opening → Loc → Bool
-opening_inner rules opening = least (rules.levels - 2) opening.shape (wanted_by opening.shape.dims opening.cells opening.static_boxes)
+opening_inner rules opening = least (rules.levels - 2) opening.shape (wanted_by opening.shape opening.cells opening.static_boxes)
 
 -- the mesh at the start
 abbrev pub opening_mesh : Rules → Opening → Mesh

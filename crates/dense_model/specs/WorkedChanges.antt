@@ -79,7 +79,7 @@ nested_inner = at 0 0 0 0 ∷ at 1 1 1 0 ∷ at 0 1 0 0 ∷ at 0 0 1 0 ∷ at 0 
 
 -- whether a location is an inner node of the least balanced tree that is refined to level 2 in the box
 abbrev pub nested_wanted : Loc → Bool
-nested_wanted = least 1 nested_opening.shape (wanted_by 2 nested_opening.cells nested_opening.static_boxes)
+nested_wanted = least 1 nested_opening.shape (wanted_by nested_opening.shape nested_opening.cells nested_opening.static_boxes)
 
 -- the box makes just these nodes inner: 7 leaves on the root that it meets, and 4 on each of the three others
 abbrev pub NestedTree : Type 0
