@@ -1,0 +1,10 @@
+pub mod Totals
+pub mod Portions
+pub mod Looks
+pub mod Grids
+pub mod Lattices
+pub mod LeafSums
+pub mod Flips
+pub mod Conditions
+pub mod Adjacent
+pub mod Balances
