@@ -8,3 +8,4 @@ pub mod Flips
 pub mod Conditions
 pub mod Adjacent
 pub mod Balances
+pub mod Pays

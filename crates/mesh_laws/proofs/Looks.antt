@@ -11,7 +11,7 @@ use Rattle.block_tree.proofs.Ancestors.{node_parent, parent_node, root_node}
 use Rattle.block_tree.proofs.Behinds.{fails, number_of_child}
 use Rattle.mesh_num.specs.Share.{share}
 use Rattle.mesh_rules.specs.Sums.{sum_to}
-use Rattle.mesh_rules.specs.Mesh.{IsMesh, Mesh, block_of, cells_along, is_inner, stored}
+use Rattle.mesh_rules.specs.Mesh.{IsMesh, Mesh, OnLeaf, block_of, cells_along, is_inner, stored}
 use Rattle.mesh_rules.specs.Look.{gathered, look, spread, sum_where}
 use Rattle.mesh_laws.specs.LookLaws.{LookLaw, LooksAddUp, sum_below}
 use Rattle.mesh_laws.proofs.Portions.{all_shares}
@@ -151,3 +151,9 @@ looks_add_up m f zero c mesh = refl
 looks_add_up m f (suc levels) c mesh =
     sum_to-same (parts m.shape.dims) (λ j. sum_below levels m.shape.dims (look m f) (child m.shape.dims c j)) (λ j. look m f (child m.shape.dims c j)) (λ j l. looks_add_up m f levels (child m.shape.dims c j) mesh)
     ∙ children_add_up m f c mesh
+
+-- below a leaf there is no node
+pub no_node : (m : Mesh) (c : Loc) → 1 ≤ c.level → OnLeaf m (parent m.shape.dims c) → is_node m.shape (is_inner m) (block_of m c) ≡ false
+no_node m c deep leaf =
+    ap (λ (b : Bool). b || is_inner m (parent m.shape.dims (block_of m c))) (ne_eqb c.level 0 (λ e. omega arith))
+    ∙ ap (is_inner m) (sym (block_parent m c)) ∙ fails (is_inner m (block_of m (parent m.shape.dims c))) leaf.outer

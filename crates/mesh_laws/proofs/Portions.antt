@@ -22,11 +22,11 @@ all_shares q n h = first_shares q n n ∙ whole q n h
     whole q n h = omega arith
 
 -- quotients grow
-quotient_grows : (a b d : ℕ) → 1 ≤ d → a ≤ b → a / d ≤ b / d
+pub quotient_grows : (a b d : ℕ) → 1 ≤ d → a ≤ b → a / d ≤ b / d
 quotient_grows a b d h k = let p = div-mul-le_self a d in le-div (a / d) b d (omega arith) (omega arith)
 
 -- two quotients are at most that of the sum
-quotients : (a b d : ℕ) → 1 ≤ d → a / d + b / d ≤ (a + b) / d
+pub quotients : (a b d : ℕ) → 1 ≤ d → a / d + b / d ≤ (a + b) / d
 quotients a b d h =
     let p = div-mul-le_self a d in
     let q = div-mul-le_self b d in

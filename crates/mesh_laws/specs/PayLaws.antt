@@ -39,5 +39,5 @@ pub record PassesNothing (p : Settings) (m : Mesh) (f : ℕ) (c : Loc) (axis : �
 
 -- at each face of a cell of a leaf, by either order
 abbrev pub NothingFromNothing : Type 0
-NothingFromNothing = (p : Settings) (m : Mesh) (f : ℕ) (c : Loc) (axis : ℕ) (high : Bool) → IsMesh m → IsIn (cell_lattice m) c → OnLeaf m c → axis < m.shape.dims →
+NothingFromNothing = (p : Settings) (m : Mesh) (f : ℕ) (c : Loc) (axis : ℕ) (high : Bool) → 1 ≤ p.denominator → IsMesh m → IsIn (cell_lattice m) c → OnLeaf m c → axis < m.shape.dims →
     PassesNothing p m f c axis high

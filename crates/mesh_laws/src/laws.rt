@@ -1,10 +1,18 @@
 //! Laws of the definitions.
 
 ghost use Rattle.mesh_laws.specs.LookLaws.{LookLaw, LooksAddUp};
+ghost use Rattle.mesh_laws.specs.PayLaws.{NothingFromNothing, PaysAtMost};
 
 /// The look is what is stored on a leaf, the sum of the children's looks where finer cells are stored, and the share of
 /// the parent's look where coarser ones are; at every depth below a cell the looks add up to the cell's.
 pub fn look_laws()
     ensures law { LookLaw }
     ensures add_up { LooksAddUp }
+{}
+
+/// A cell pays at most what it has in a stage, by either order, where the field's rates fit at the finest level: no total
+/// falls below zero. What leaves a cell with nothing in it, and what enters it from where nothing is seen, is nothing.
+pub fn pay_laws()
+    ensures pays { PaysAtMost }
+    ensures nothing { NothingFromNothing }
 {}

@@ -6,4 +6,4 @@
 
 mod laws;
 
-pub use laws::{look_laws};
+pub use laws::{look_laws, pay_laws};
