@@ -314,13 +314,13 @@ blocks_of_cells m mesh level h few =
     turned r n p = omega arith
 
 -- the block of a cell of a block
-pub block_of_cell : (m : Mesh) → IsMesh m → (l : Loc) (p : ℕ) → p < block_size m → block_of m (cell_at m l p) ≡ l
-block_of_cell m mesh l p h =
+pub block_of_cell : (m : Mesh) → ((axis : ℕ) → axis < 3 → 1 ≤ cells_along m axis) → (l : Loc) (p : ℕ) → p < block_size m → block_of m (cell_at m l p) ≡ l
+block_of_cell m some l p h =
     let n1 : ℕ = cells_along m 0 in
     let n2 : ℕ = cells_along m 1 in
     let n3 : ℕ = cells_along m 2 in
-    let s1 = mesh.some_cells 0 (lit< tt) in
-    let s2 = mesh.some_cells 1 (lit< tt) in
+    let s1 = some 0 (lit< tt) in
+    let s2 = some 1 (lit< tt) in
     let q : p < n3 * n2 * n1 = omega arith in
     let r : p / n1 < n3 * n2 = div_below p n1 (n3 * n2) (omega arith) q in
     let t : p / n1 / n2 < n3 = div_below (p / n1) n2 n3 (omega arith) r in
@@ -338,7 +338,7 @@ counts_block m mesh l h =
     let b : Bool = is_leaf m.shape (is_inner m) l in
     all_or_none b
     ∙ sym (sum_to-same (block_size m) (λ p. counts m h (cell_at m l p)) (λ p. cond (is_leaf m.shape (is_inner m) l) (h (cell_at m l p)) 0)
-    (λ p small. ap (λ (x : Loc). cond (is_leaf m.shape (is_inner m) x) (h (cell_at m l p)) 0) (block_of_cell m mesh l p small)))
+    (λ p small. ap (λ (x : Loc). cond (is_leaf m.shape (is_inner m) x) (h (cell_at m l p)) 0) (block_of_cell m mesh.some_cells l p small)))
   where
     all_or_none : (b : Bool) → cond b (cell_sum m l h) 0 ≡ sum_to (block_size m) (λ p. cond b (h (cell_at m l p)) 0)
     all_or_none true = refl

@@ -9,3 +9,7 @@ pub mod Conditions
 pub mod Adjacent
 pub mod Balances
 pub mod Pays
+pub mod Mirrors
+pub mod Cells
+pub mod Fillings
+pub mod Conserves

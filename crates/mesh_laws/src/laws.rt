@@ -2,6 +2,7 @@
 
 ghost use Rattle.mesh_laws.specs.LookLaws.{LookLaw, LooksAddUp};
 ghost use Rattle.mesh_laws.specs.PayLaws.{NothingFromNothing, PaysAtMost};
+ghost use Rattle.mesh_laws.specs.StageLaws.{StageConserves};
 
 /// The look is what is stored on a leaf, the sum of the children's looks where finer cells are stored, and the share of
 /// the parent's look where coarser ones are; at every depth below a cell the looks add up to the cell's.
@@ -15,4 +16,10 @@ pub fn look_laws()
 pub fn pay_laws()
     ensures pays { PaysAtMost }
     ensures nothing { NothingFromNothing }
+{}
+
+/// On any balanced tree a stage changes a field's total by what comes in and goes out through the faces of the domain
+/// alone, by either order, where the field's rates fit.
+pub fn conservation_law()
+    ensures { StageConserves }
 {}
