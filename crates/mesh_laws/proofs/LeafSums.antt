@@ -269,8 +269,8 @@ abbrev cell_sum : Mesh → Loc → (Loc → ℕ) → ℕ
 cell_sum m l h = sum_to (block_size m) (λ p. h (cell_at m l p))
 
 -- a place of a block, row by row
-cell_grid : (m : Mesh) → IsMesh m → (l : Loc) (h : Loc → ℕ) → cell_sum m l h ≡ grid (cells_along m 0) (cells_along m 1) (cells_along m 2) (λ u v w. h (place l.level (l.l1 * cells_along m 0 + u) (l.l2 * cells_along m 1 + v) (l.l3 * cells_along m 2 + w)))
-cell_grid m mesh l h =
+cell_grid : (m : Mesh) (l : Loc) (h : Loc → ℕ) → cell_sum m l h ≡ grid (cells_along m 0) (cells_along m 1) (cells_along m 2) (λ u v w. h (place l.level (l.l1 * cells_along m 0 + u) (l.l2 * cells_along m 1 + v) (l.l3 * cells_along m 2 + w)))
+cell_grid m l h =
     let n1 : ℕ = cells_along m 0 in
     let n2 : ℕ = cells_along m 1 in
     let n3 : ℕ = cells_along m 2 in
@@ -296,15 +296,15 @@ cell_grid m mesh l h =
         ∙ ap (λ t. h (place l.level (l.l1 * n1 + u) (l.l2 * n2 + v) (l.l3 * n3 + t))) e4
 
 -- the cells of all blocks of a level are the cells of the level
-blocks_of_cells : (m : Mesh) → IsMesh m → (level : ℕ) (h : Loc → ℕ) → level ≤ 10 → lattice m.shape level (λ l. cell_sum m l h) ≡ lattice (cell_lattice m) level h
-blocks_of_cells m mesh level h few =
+blocks_of_cells : (m : Mesh) (level : ℕ) (h : Loc → ℕ) → level ≤ 10 → lattice m.shape level (λ l. cell_sum m l h) ≡ lattice (cell_lattice m) level h
+blocks_of_cells m level h few =
     let n1 : ℕ = cells_along m 0 in
     let n2 : ℕ = cells_along m 1 in
     let n3 : ℕ = cells_along m 2 in
     let b1 : ℕ = blocks_along m.shape 0 level in
     let b2 : ℕ = blocks_along m.shape 1 level in
     let b3 : ℕ = blocks_along m.shape 2 level in
-    lattice_same m.shape level (λ l. cell_sum m l h) (λ l. grid n1 n2 n3 (λ u v w. h (place l.level (l.l1 * n1 + u) (l.l2 * n2 + v) (l.l3 * n3 + w)))) few (λ l inside at. cell_grid m mesh l h)
+    lattice_same m.shape level (λ l. cell_sum m l h) (λ l. grid n1 n2 n3 (λ u v w. h (place l.level (l.l1 * n1 + u) (l.l2 * n2 + v) (l.l3 * n3 + w)))) few (λ l inside at. cell_grid m l h)
     ∙ sym (grid_split b1 b2 b3 n1 n2 n3 (λ x y z. h (place level x y z)))
     ∙ ap (λ t. grid t (b2 * n2) (b3 * n3) (λ x y z. h (place level x y z))) (turned (root_along m.shape 0) n1 (factor m.shape.dims 0 ^ level))
     ∙ ap (λ t. grid (blocks_along (cell_lattice m) 0 level) t (b3 * n3) (λ x y z. h (place level x y z))) (turned (root_along m.shape 1) n2 (factor m.shape.dims 1 ^ level))
@@ -329,27 +329,36 @@ block_of_cell m some l p h =
     (div-mul-add l.l2 n2 (p / n1 % n2) (mod_below (p / n1) n2 (omega arith)))
     (div-mul-add l.l3 n3 (p / n1 / n2) t)
 
--- what a cell counts where it lies on a leaf
+-- what a cell counts where it lies on a leaf of a tree, and of the mesh's own
+abbrev pub counts_on : Mesh → (Loc → Bool) → (Loc → ℕ) → Loc → ℕ
+counts_on m inner h c = cond (is_leaf m.shape inner (block_of m c)) (h c) 0
+
 abbrev pub counts : Mesh → (Loc → ℕ) → Loc → ℕ
 counts m h c = cond (is_leaf m.shape (is_inner m) (block_of m c)) (h c) 0
 
-counts_block : (m : Mesh) → IsMesh m → (l : Loc) (h : Loc → ℕ) → on_leaf m.shape (is_inner m) (λ x. cell_sum m x h) l ≡ cell_sum m l (counts m h)
-counts_block m mesh l h =
-    let b : Bool = is_leaf m.shape (is_inner m) l in
+counts_block : (m : Mesh) → ((axis : ℕ) → axis < 3 → 1 ≤ cells_along m axis) → (inner : Loc → Bool) (l : Loc) (h : Loc → ℕ) → on_leaf m.shape inner (λ x. cell_sum m x h) l ≡ cell_sum m l (counts_on m inner h)
+counts_block m some inner l h =
+    let b : Bool = is_leaf m.shape inner l in
     all_or_none b
-    ∙ sym (sum_to-same (block_size m) (λ p. counts m h (cell_at m l p)) (λ p. cond (is_leaf m.shape (is_inner m) l) (h (cell_at m l p)) 0)
-    (λ p small. ap (λ (x : Loc). cond (is_leaf m.shape (is_inner m) x) (h (cell_at m l p)) 0) (block_of_cell m mesh.some_cells l p small)))
+    ∙ sym (sum_to-same (block_size m) (λ p. counts_on m inner h (cell_at m l p)) (λ p. cond (is_leaf m.shape inner l) (h (cell_at m l p)) 0)
+    (λ p small. ap (λ (x : Loc). cond (is_leaf m.shape inner x) (h (cell_at m l p)) 0) (block_of_cell m some l p small)))
   where
     all_or_none : (b : Bool) → cond b (cell_sum m l h) 0 ≡ sum_to (block_size m) (λ p. cond b (h (cell_at m l p)) 0)
     all_or_none true = refl
     all_or_none false = sym (sum_nothing (block_size m))
 
+-- the sum over all cells of the leaves of a tree, level by level
+pub cells_on_tree : (m : Mesh) → ((axis : ℕ) → axis < 3 → 1 ≤ cells_along m axis) → IsShape m.shape → (inner : Loc → Bool) → IsTree m.shape inner → (h : Loc → ℕ) →
+    sum_over (leaves_of m.shape inner) (λ l. cell_sum m l h) ≡ sum_to 11 (λ i. lattice (cell_lattice m) i (counts_on m inner h))
+unfolding leaves_of
+cells_on_tree m some shape inner tree h =
+    leaves_sum m.shape inner shape tree (λ l. cell_sum m l h) 10 refl
+    ∙ sum_to-same 11 (λ i. lattice m.shape i (on_leaf m.shape inner (λ l. cell_sum m l h))) (λ i. lattice (cell_lattice m) i (counts_on m inner h))
+    (λ i l. lattice_same m.shape i (on_leaf m.shape inner (λ x. cell_sum m x h)) (λ x. cell_sum m x (counts_on m inner h)) (omega arith) (λ x inside at. counts_block m some inner x h)
+    ∙ blocks_of_cells m i (counts_on m inner h) (omega arith))
+
 -- the sum over all cells of a mesh, level by level
 pub cells_by_level : (m : Mesh) → IsMesh m → (h : Loc → ℕ) → sum_cells m h ≡ sum_to 11 (λ i. lattice (cell_lattice m) i (counts m h))
-unfolding leaves_of
 cells_by_level m mesh h =
     ap (λ (v : List Loc). sum_over v (λ l. cell_sum m l h)) mesh.leaves
-    ∙ leaves_sum m.shape (is_inner m) mesh.shape mesh.tree (λ l. cell_sum m l h) 10 refl
-    ∙ sum_to-same 11 (λ i. lattice m.shape i (on_leaf m.shape (is_inner m) (λ l. cell_sum m l h))) (λ i. lattice (cell_lattice m) i (counts m h))
-    (λ i l. lattice_same m.shape i (on_leaf m.shape (is_inner m) (λ x. cell_sum m x h)) (λ x. cell_sum m x (counts m h)) (omega arith) (λ x inside at. counts_block m mesh x h)
-    ∙ blocks_of_cells m mesh i (counts m h) (omega arith))
+    ∙ cells_on_tree m mesh.some_cells mesh.shape (is_inner m) mesh.tree h

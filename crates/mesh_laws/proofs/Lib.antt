@@ -13,3 +13,4 @@ pub mod Mirrors
 pub mod Cells
 pub mod Fillings
 pub mod Conserves
+pub mod Remaps

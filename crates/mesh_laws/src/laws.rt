@@ -2,6 +2,7 @@
 
 ghost use Rattle.mesh_laws.specs.LookLaws.{LookLaw, LooksAddUp};
 ghost use Rattle.mesh_laws.specs.PayLaws.{NothingFromNothing, PaysAtMost};
+ghost use Rattle.mesh_laws.specs.RemapLaws.{RemapKeepsTotals};
 ghost use Rattle.mesh_laws.specs.StageLaws.{StageConserves};
 
 /// The look is what is stored on a leaf, the sum of the children's looks where finer cells are stored, and the share of
@@ -22,4 +23,9 @@ pub fn pay_laws()
 /// alone, by either order, where the field's rates fit.
 pub fn conservation_law()
     ensures { StageConserves }
+{}
+
+/// On any tree of the same lattice a field's total is what it was.
+pub fn remap_law()
+    ensures { RemapKeepsTotals }
 {}

@@ -6,4 +6,4 @@
 
 mod laws;
 
-pub use laws::{conservation_law, look_laws, pay_laws};
+pub use laws::{conservation_law, look_laws, pay_laws, remap_law};
