@@ -14,3 +14,6 @@ pub mod Cells
 pub mod Fillings
 pub mod Conserves
 pub mod Remaps
+pub mod Reactions
+pub mod StoredCells
+pub mod Drops

@@ -1,7 +1,9 @@
 //! Laws of the definitions.
 
+ghost use Rattle.mesh_laws.specs.DropLaws.{CutLaw, DropsAreWhatWasCut};
 ghost use Rattle.mesh_laws.specs.LookLaws.{LookLaw, LooksAddUp};
 ghost use Rattle.mesh_laws.specs.PayLaws.{NothingFromNothing, PaysAtMost};
+ghost use Rattle.mesh_laws.specs.ReactionLaws.{ReactionBalances, ReactionKeepsSum};
 ghost use Rattle.mesh_laws.specs.RemapLaws.{RemapKeepsTotals};
 ghost use Rattle.mesh_laws.specs.StageLaws.{StageConserves};
 
@@ -28,4 +30,16 @@ pub fn conservation_law()
 /// On any tree of the same lattice a field's total is what it was.
 pub fn remap_law()
     ensures { RemapKeepsTotals }
+{}
+
+/// By any kernel a reaction keeps the sum over the fields, and a field's total changes by what is made and used of it.
+pub fn reaction_laws()
+    ensures sum { ReactionKeepsSum }
+    ensures balance { ReactionBalances }
+{}
+
+/// A field that stays on a leaf keeps its totals there, any other is made zero, and what is dropped is exactly that.
+pub fn drop_laws()
+    ensures cut { CutLaw }
+    ensures drops { DropsAreWhatWasCut }
 {}
