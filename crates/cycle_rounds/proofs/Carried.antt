@@ -1,14 +1,14 @@
 -- What the lists and the letters of a machine hold, kept through every legal list of events: what a machine has to supply, and
 -- that it then holds in every state that is reached.
-use Rattle.std.proofs.Common.{◌≡◌, ℕ, zero, suc, ◌+◌, ◌*◌, ◌/◌, ◌%◌, ◌<◌, ◌≤◌, ◌==◌, Bool, true, false, cond, not, ◌&&◌, ◌||◌, inl, inr, nat_lt, Option, Some, None, is_some, List, [], ◌∷◌, ◌++◌, length, filter, find, count_by, refl, arith, ap, sym, subst, ◌∙◌}
+use Rattle.std.proofs.Common.{◌≡◌, ℕ, suc, ◌+◌, ◌*◌, ◌/◌, ◌%◌, ◌<◌, ◌≤◌, ◌==◌, Bool, true, false, cond, not, inl, inr, nat_lt, Option, Some, None, is_some, List, [], ◌∷◌, filter, find, count_by, refl, arith, ap, sym, subst, ◌∙◌}
 use Rattle.std.specs.List.{list_all, list_any}
-use Rattle.std.proofs.lemmas.Bool.{and_parts, cases_Bool, cases_eq, eqb-true, false≢true, false_from_ne_true, and_from, ltb-true, or_left, or_right}
+use Rattle.std.proofs.lemmas.Bool.{and_parts, cases_eq, eqb-true, false_from_ne_true, and_from, ltb-true, or_left, or_right}
 use Rattle.cycle_rounds.specs.Plan.{IsPlan, Plan, all_tasks, is_due, is_reading, is_sending, round_tasks}
-use Rattle.cycle_rounds.specs.Events.{Event, IsHistory, Letter, Machine, State, after, are_legal, begin, content_of, delivered, has_come, is_for, is_legal, is_of, left, letters, posted, put, reads, replay, step, without}
+use Rattle.cycle_rounds.specs.Events.{Event, IsHistory, Letter, Machine, State, after, are_legal, begin, content_of, delivered, is_for, is_legal, is_of, left, letters, posted, put, reads, replay, step}
 use Rattle.cycle_rounds.specs.Events.Event.{take, give, deliver}
 use Rattle.cycle_rounds.specs.Protocol.{copies}
-use Rattle.cycle_rounds.proofs.Lists.{all_any, any_count, count_any, count_append, count_filter, found, no_count, put_other, put_same}
-use Rattle.cycle_rounds.proofs.Orderly.{IsOf, OnWay, Orderly, Somewhere, due_count, of_is, on_way, own_test, somewhere}
+use Rattle.cycle_rounds.proofs.Lists.{all_any, any_count, count_any, count_filter, found, put_other, put_same}
+use Rattle.cycle_rounds.proofs.Orderly.{Orderly, Somewhere, due_count, of_is, on_way, own_test, somewhere}
 use Rattle.cycle_rounds.proofs.OrderlySteps.{Gives, Takes, come_is, gives_is, ready_read, round_of, takes_is, begin_orderly}
 use Rattle.cycle_rounds.proofs.OrderlyKept.{step_orderly}
 use Rattle.cycle_rounds.proofs.Each.{Each, each_append, each_filter, each_any, each_found, each_in, each_without}
@@ -59,9 +59,12 @@ mail_at : {X L P : Type 0} (p : Plan X) → IsPlan p → (Came : ℕ → X → L
 mail_at {X} {L} {P} p plan Came Holds local mail each r x h =
     let f = found (is_of p r x) mail h in
     let o = of_is p plan r x f.0 f.2 in
-    let e = each_found (HasCome p Came Holds local) (is_of p r x) mail f.0 each f.1 in
-    (f.0, f.1, subst (λ (y : X). Holds r y f.0.content) (sym o.of) (subst (λ q. Holds q f.0.of f.0.content) o.round e.0),
-        subst (λ (y : X). Came r y (local (p.to y))) (sym o.of) (subst (λ q. Came q f.0.of (local (p.to f.0.of))) o.round e.1))
+    let e = each_found (HasCome p Came Holds local) (is_of p r x) mail f.0 each f.1 in (
+      f.0,
+      f.1,
+      subst (λ (y : X). Holds r y f.0.content) (sym o.of) (subst (λ q. Holds q f.0.of f.0.content) o.round e.0),
+      subst (λ (y : X). Came r y (local (p.to y))) (sym o.of) (subst (λ q. Came q f.0.of (local (p.to f.0.of))) o.round e.1),
+    )
 
 begin_carried : {X L P : Type 0} (p : Plan X) (m : Machine X L P) (Good : ℕ → ℕ → Bool → L → Type 0) (Came : ℕ → X → L → Type 0) (Holds : ℕ → X → P → Type 0) → Carries p m Good Came Holds → IsCarried p Good Came Holds (begin m)
 begin_carried p m Good Came Holds c = record { good = c.begins; wire = tt; mail = tt }
@@ -76,9 +79,11 @@ take_carried {X} {L} {P} p m Good Came Holds plan c s seat i h t = record {
   where
     free : Good i (s.given i) false (s.local i)
     free = subst (λ b. Good i (s.given i) b (s.local i)) t.free (h.good i)
+
     taken : Good i (s.given i) true (m.lease i (s.given i) (s.local i))
     taken = c.takes i (s.given i) (s.local i) t.more free (λ r x low at due to.
         subst (λ j. Came r x (s.local j)) to (mail_at p plan Came Holds s.local s.mail h.mail r x (come_is p plan s.mail r i x (ready_read p s i r low at t.ready) due to)).3)
+
     same_put : (j : ℕ) → put s.given i (s.given i) j ≡ s.given j
     same_put j = elim (cases_eq j i) [ inl e ↦ put_same s.given i j (s.given i) e ∙ ap s.given (sym e) | inr ne ↦ put_other s.given i j (s.given i) ne ]
 
@@ -103,16 +108,22 @@ posted_hold {X} {L} {P} p m Good Came Holds plan c s i h true e =
   where
     q : ℕ
     q = s.given i / 3
+
     parts : (nat_lt (s.given i) (round_tasks p) ≡ true) × ((s.given i % 3 == 0) ≡ true)
     parts = and_parts (nat_lt (s.given i) (round_tasks p)) (s.given i % 3 == 0) e
+
     low : s.given i / 3 < p.rounds
     low = let a = ltb-true (s.given i) (round_tasks p) parts.0 in omega arith
+
     at : s.given i ≡ 3 * (s.given i / 3)
     at = let a = eqb-true (s.given i % 3) 0 parts.1 in omega arith
+
     good : Good i (3 * (s.given i / 3)) true (s.local i)
     good = subst (λ g. Good i g true (s.local i)) at h
+
     due : (x : X) → list_any (p.same x) (filter (λ x. p.from x == i) (p.due q)) ≡ true → is_due p q x ≡ true
     due x k = let a = any_count (p.same x) (filter (λ x. p.from x == i) (p.due q)) k in let b = count_filter (p.same x) (λ x. p.from x == i) (p.due q) in count_any (p.same x) (p.due q) (omega arith)
+
     own : (x : X) → list_any (p.same x) (filter (λ x. p.from x == i) (p.due q)) ≡ true → p.from x ≡ i
     own x k = let a = all_any (λ x. p.from x == i) (p.same x) (filter (λ x. p.from x == i) (p.due q)) (filter_passes (λ x. p.from x == i) (p.due q)) k in
         eqb-true (p.from x) i (ap (λ v. p.from v == i) (plan.same_is x a.0 a.2) ∙ a.1)
@@ -130,22 +141,29 @@ give_carried {X} {L} {P} p m Good Came Holds plan c s seat i o next h t = record
   where
     work : L
     work = m.work i (s.given i) (reads p m s (s.given i / 3)) (s.local i)
+
     busy : Good i (s.given i) true (s.local i)
     busy = subst (λ b. Good i (s.given i) b (s.local i)) t.busy (h.good i)
+
     read : (r : ℕ) (x : X) → r < p.rounds → s.given i ≡ 3 * r + 1 → is_due p r x ≡ true → p.to x ≡ i → Holds r x (reads p m s (s.given i / 3) x)
     read r x low at due to =
         let a = mail_at p plan Came Holds s.local s.mail h.mail r x (o.come r x low due (ap s.given to ∙ at) (ap (λ j. is_some (s.out j)) to ∙ t.busy)) in
         let e : a.0.content ≡ reads p m s r x = sym (ap (content_of (m.blank x)) a.1) in
         subst (λ q. Holds r x (reads p m s q x)) (sym (round_of r (s.given i) at)) (subst (λ (v : P). Holds r x v) e a.2)
+
     done : Good i (s.given i + 1) false work
     done = c.gives i (s.given i) (reads p m s (s.given i / 3)) (s.local i) (o.busy i t.busy) busy read
+
     somewhere_next : (l : Letter X P) → list_any (is_of p l.round l.of) (left p s i) ≡ true → Somewhere p (step p m s (give seat i)) l.round l.of
     somewhere_next l k = somewhere p (step p m s (give seat i)) next l.round l.of (let a = any_count (is_of p l.round l.of) (left p s i) k in omega arith)
+
     still : (l : Letter X P) → list_any (is_of p l.round l.of) (left p s i) ≡ true → HasCome p Came Holds s.local l → HasCome p Came Holds (put s.local i work) l
     still l k v =
-        let w = somewhere_next l k in
-        (v.0, came_put p Came s.local i work l.round l.of v.1 (λ e u. subst (λ j. Came l.round l.of (m.work j (s.given i) (reads p m s (s.given i / 3)) (s.local i))) e
-            (c.still_given l.round l.of (s.local i) (s.given i) (reads p m s (s.given i / 3)) w.way.round (let a = put_same s.given i (p.to l.of) (s.given i + 1) e in let b = w.way.unread in omega arith) u)))
+        let w = somewhere_next l k in (
+          v.0,
+          came_put p Came s.local i work l.round l.of v.1 (λ e u. subst (λ j. Came l.round l.of (m.work j (s.given i) (reads p m s (s.given i / 3)) (s.local i))) e
+              (c.still_given l.round l.of (s.local i) (s.given i) (reads p m s (s.given i / 3)) w.way.round (let a = put_same s.given i (p.to l.of) (s.given i + 1) e in let b = w.way.unread in omega arith) u)),
+        )
 
 deliver_carried : {X L P : Type 0} (p : Plan X) (m : Machine X L P) (Good : ℕ → ℕ → Bool → L → Type 0) (Came : ℕ → X → L → Type 0) (Holds : ℕ → X → P → Type 0) → IsPlan p → Carries p m Good Came Holds → (s : State X L P) (k : ℕ) (l : Letter X P) → Orderly p s → IsCarried p Good Came Holds s → find (λ y. y.number == k) s.wire ≡ Some l → 1 ≤ count_by (is_of p l.round l.of) s.wire → IsCarried p Good Came Holds (delivered p m s k (Some l))
 deliver_carried {X} {L} {P} p m Good Came Holds plan c s k l o h f there = record {
@@ -158,10 +176,13 @@ deliver_carried {X} {L} {P} p m Good Came Holds plan c s k l o h f there = recor
   where
     with_it : L
     with_it = m.arrive l.round l.of l.content (s.local (p.to l.of))
+
     holds : Holds l.round l.of l.content
     holds = each_found (IsTrueLetter Holds) (λ y. y.number == k) s.wire l h.wire f
+
     way : Somewhere p s l.round l.of
     way = somewhere p s o l.round l.of (omega arith)
+
     not_out : s.given (p.to l.of) ≡ 3 * l.round + 1 → is_some (s.out (p.to l.of)) ≡ false
     not_out at = false_from_ne_true (is_some (s.out (p.to l.of))) (λ b.
         let d = any_count (is_of p l.round l.of) s.mail (o.come l.round l.of way.way.round way.due at b) in
@@ -171,14 +192,19 @@ deliver_carried {X} {L} {P} p m Good Came Holds plan c s k l o h f there = recor
         cond_most : (b : Bool) (n : ℕ) → n ≤ 1 → cond b n 0 ≤ 1
         cond_most true n h = h
         cond_most false n h = omega arith
+
         once_at_most : copies p s l.round l.of ≤ 1
         once_at_most = subst (λ n. n ≤ 1) (sym (o.place l.round l.of)) (cond_most (on_way p.rounds l.round (s.given (p.from l.of)) (s.given (p.to l.of))) (due_count p l.round l.of) (plan.once l.round l.of))
+
     came : Good (p.to l.of) (s.given (p.to l.of)) (is_some (s.out (p.to l.of))) with_it
     came = c.comes (s.given (p.to l.of)) (is_some (s.out (p.to l.of))) l.round l.of l.content (s.local (p.to l.of)) way.way.round way.due way.way.unread not_out (h.good (p.to l.of)) holds
+
     same_given : (j : ℕ) → put s.given (p.to l.of) (s.given (p.to l.of)) j ≡ s.given j
     same_given j = elim (cases_eq j (p.to l.of)) [ inl e ↦ put_same s.given (p.to l.of) j (s.given (p.to l.of)) e ∙ ap s.given (sym e) | inr ne ↦ put_other s.given (p.to l.of) j (s.given (p.to l.of)) ne ]
+
     same_out : (j : ℕ) → put s.out (p.to l.of) (s.out (p.to l.of)) j ≡ s.out j
     same_out j = elim (cases_eq j (p.to l.of)) [ inl e ↦ put_same s.out (p.to l.of) j (s.out (p.to l.of)) e ∙ ap s.out (sym e) | inr ne ↦ put_other s.out (p.to l.of) j (s.out (p.to l.of)) ne ]
+
     subst2 : (j : ℕ) → Good j (put s.given (p.to l.of) (s.given (p.to l.of)) j) (is_some (put s.out (p.to l.of) (s.out (p.to l.of)) j)) (put s.local (p.to l.of) with_it j) → Good j (s.given j) (is_some (s.out j)) (put s.local (p.to l.of) with_it j)
     subst2 j v = subst (λ g. Good j g (is_some (s.out j)) (put s.local (p.to l.of) with_it j)) (same_given j) (subst (λ (u : Option ℕ). Good j (put s.given (p.to l.of) (s.given (p.to l.of)) j) (is_some u) (put s.local (p.to l.of) with_it j)) (same_out j) v)
 

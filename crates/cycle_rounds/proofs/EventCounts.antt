@@ -1,16 +1,16 @@
 -- How many events there are.
-use Rattle.std.proofs.Common.{◌≡◌, ℕ, zero, suc, ◌+◌, ◌*◌, ◌/◌, ◌%◌, ◌<◌, ◌≤◌, ◌==◌, Bool, true, false, cond, not, ◌&&◌, inl, inr, nat_lt, Option, Some, None, is_some, List, [], ◌∷◌, ◌++◌, length, filter, find, count_by, sum_by, refl, arith, ap, sym, subst, ◌∙◌, eq-eqb, length-append}
-use Rattle.std.specs.List.{list_all, list_any, range_with_len}
-use Rattle.std.proofs.lemmas.Bool.{and_parts, cases_Bool, cases_eq, cases_lt, eqb-true, le-ltb, lt-ltb, ltb-true, ne_eqb, true≢false, false≢true, false_from_ne_true}
+use Rattle.std.proofs.Common.{◌≡◌, ℕ, suc, ◌+◌, ◌*◌, ◌/◌, ◌<◌, ◌≤◌, ◌==◌, Bool, true, false, cond, inl, inr, nat_lt, Option, Some, None, is_some, List, [], ◌∷◌, length, filter, find, count_by, sum_by, refl, arith, ap, sym, subst, ◌∙◌, eq-eqb, length-append}
+use Rattle.std.specs.List.{list_all, range_with_len}
+use Rattle.std.proofs.lemmas.Bool.{and_parts, cases_lt, eqb-true, le-ltb, lt-ltb, ne_eqb}
 use Rattle.std.proofs.lemmas.List.Sums.{count_by-le-length, length-filter}
-use Rattle.cycle_rounds.specs.Plan.{IsPlan, Plan, all_tasks, is_due, is_reading, is_sending, round_tasks}
-use Rattle.cycle_rounds.specs.Events.{Event, IsHistory, Letter, Machine, State, after, are_legal, begin, delivered, is_complete, is_legal, letters, posted, put, replay, step, without}
+use Rattle.cycle_rounds.specs.Plan.{IsPlan, Plan, all_tasks, is_sending}
+use Rattle.cycle_rounds.specs.Events.{Event, Letter, Machine, State, after, are_legal, begin, delivered, is_complete, is_legal, posted, put, replay, step, without}
 use Rattle.cycle_rounds.specs.Events.Event.{take, give, deliver}
 use Rattle.cycle_rounds.specs.Protocol.{EventsAreCounted, all_due}
 use Rattle.cycle_rounds.proofs.Lists.{all_from, all_length, count_add, count_cons_no, count_same, count_without, found, length_count, none_if, one_if, put_other, put_same, range_at, range_sum_changed, range_sum_const, range_sum_le, range_sum_same, same_if}
 use Rattle.cycle_rounds.proofs.Orderly.{Orderly, length_letters}
-use Rattle.cycle_rounds.proofs.OrderlySteps.{Gave, GaveNot, Gives, Reads, Sends, Takes, Works, begin_orderly, gave, gives_is, kind_of, sent_now, takes_is}
-use Rattle.cycle_rounds.proofs.OrderlyKept.{step_orderly, replay_orderly}
+use Rattle.cycle_rounds.proofs.OrderlySteps.{Gives, Sends, Takes, gave, gives_is, kind_of, sent_now, takes_is}
+use Rattle.cycle_rounds.proofs.OrderlyKept.{replay_orderly}
 
 -- the events of a list that came so far, and the letters of a round that were sent
 abbrev own_events : {X L P : Type 0} → State X L P → ℕ → ℕ
@@ -41,6 +41,7 @@ take_counted {X} {L} {P} p m s seat i n t c = record {
   where
     here : own_events (step p m s (take seat i)) i ≡ own_events s i + 1
     here = let a = one_if (is_some (put s.out i (Some seat) i)) (ap is_some (put_same s.out i i (Some seat) refl)) in let b = none_if (is_some (s.out i)) t.free in omega arith
+
     others : (j : ℕ) → (j ≡ i → ⊥) → own_events (step p m s (take seat i)) j ≡ own_events s j
     others j ne = let a = same_if (is_some (put s.out i (Some seat) j)) (is_some (s.out j)) (ap is_some (put_other s.out i j (Some seat) ne)) in omega arith
 
@@ -88,6 +89,7 @@ give_sent {X} {L} {P} p m s seat i c = elim (kind_of p (s.given i)) [
   where
     third : (r : ℕ) → 3 * r ≡ s.given i → r ≡ s.given i / 3
     third r e = omega arith
+
     quiet : is_sending p (s.given i) ≡ false → ((r : ℕ) → 0 ≤ r → r < 0 + p.rounds → sent_of p (step p m s (give seat i)) r ≡ sent_of p s r) → s.sent + length (posted p m s i) ≡ sum_by (sent_of p (step p m s (give seat i))) (range_with_len 0 p.rounds)
     quiet e h = let a = range_sum_same (sent_of p s) (sent_of p (step p m s (give seat i))) 0 p.rounds h in let b = ap (λ (v : Bool). length (cond v (sent_now p m s i) [])) e in omega arith
 
@@ -99,6 +101,7 @@ give_counted {X} {L} {P} p m s seat i n t c = record {
   where
     here : own_events (step p m s (give seat i)) i ≡ own_events s i + 1
     here = let a = none_if (is_some (put s.out i None i)) (ap is_some (put_same s.out i i None refl)) in let b = one_if (is_some (s.out i)) t.busy in let d = put_same s.given i i (s.given i + 1) refl in omega arith
+
     others : (j : ℕ) → (j ≡ i → ⊥) → own_events (step p m s (give seat i)) j ≡ own_events s j
     others j ne = let a = same_if (is_some (put s.out i None j)) (is_some (s.out j)) (ap is_some (put_other s.out i j None ne)) in let d = put_other s.given i j (s.given i + 1) ne in omega arith
 

@@ -1,10 +1,10 @@
 -- A cycle is never stuck: a list with the fewest tasks given can go on, or waits for a letter on the wire.
-use Rattle.std.proofs.Common.{◌≡◌, ℕ, zero, suc, ◌+◌, ◌*◌, ◌/◌, ◌%◌, ◌<◌, ◌≤◌, ◌==◌, Bool, true, false, cond, not, ◌&&◌, ◌||◌, inl, inr, nat_lt, nat_le, Option, Some, None, is_some, List, [], ◌∷◌, length, count_by, refl, arith, ap, sym, ◌∙◌}
+use Rattle.std.proofs.Common.{◌≡◌, ℕ, zero, suc, ◌/◌, ◌%◌, ◌<◌, ◌≤◌, ◌==◌, Bool, true, false, cond, not, ◌&&◌, ◌||◌, inl, inr, nat_lt, nat_le, is_some, length, refl, arith, ap, sym, ◌∙◌}
 use Rattle.std.specs.List.{list_all, list_any, range_with_len}
 use Rattle.std.proofs.lemmas.Bool.{and_cases, and_from, and_parts, cases_eq, cases_lt, eqb-false, eqb-true, le-ltb, leb-false, lt-ltb, not-false, not_from_false, or_parts}
 use Rattle.std.proofs.lemmas.List.Sums.{count_by-le-length}
-use Rattle.cycle_rounds.specs.Plan.{IsPlan, Plan, all_tasks, is_due, is_reading, round_tasks}
-use Rattle.cycle_rounds.specs.Events.{Event, IsHistory, Machine, State, has_come, is_complete, is_of, is_past, is_ready, may_take, replay}
+use Rattle.cycle_rounds.specs.Plan.{IsPlan, Plan, all_tasks, is_reading, round_tasks}
+use Rattle.cycle_rounds.specs.Events.{State, has_come, is_complete, is_of, is_past, is_ready, replay}
 use Rattle.cycle_rounds.specs.Protocol.{CanGoOn, NeverStuck, copies}
 use Rattle.cycle_rounds.proofs.Lists.{all_fails, any_count, no_count, range_fails}
 use Rattle.cycle_rounds.proofs.Orderly.{Orderly, due_count, is_way}
@@ -62,9 +62,12 @@ not_ready p plan s o k fewest h = elim (cases_lt (s.given k) (round_tasks p)) [
 
 on_by : {X L P : Type 0} (p : Plan X) → IsPlan p → (s : State X L P) → Orderly p s → (k : ℕ) → k < p.lists → s.given k < all_tasks p → ((j : ℕ) → j < p.lists → s.given k ≤ s.given j) → (out ready : Bool) → is_some (s.out k) ≡ out → is_ready p s k ≡ ready → CanGoOn p s
 on_by p plan s o k list more fewest true ready e f = inr (inl (k, list, e))
-on_by p plan s o k list more fewest false true e f = inl (k, and_from (nat_lt k p.lists) (not (is_some (s.out k)) && (nat_lt (s.given k) (all_tasks p) && is_ready p s k)) (lt-ltb k p.lists list)
-    (and_from (not (is_some (s.out k))) (nat_lt (s.given k) (all_tasks p) && is_ready p s k) (not_from_false (is_some (s.out k)) e)
-        (and_from (nat_lt (s.given k) (all_tasks p)) (is_ready p s k) (lt-ltb (s.given k) (all_tasks p) more) f)))
+on_by p plan s o k list more fewest false true e f = inl (
+  k,
+  and_from (nat_lt k p.lists) (not (is_some (s.out k)) && (nat_lt (s.given k) (all_tasks p) && is_ready p s k)) (lt-ltb k p.lists list)
+      (and_from (not (is_some (s.out k))) (nat_lt (s.given k) (all_tasks p) && is_ready p s k) (not_from_false (is_some (s.out k)) e)
+      (and_from (nat_lt (s.given k) (all_tasks p)) (is_ready p s k) (lt-ltb (s.given k) (all_tasks p) more) f)),
+)
 on_by p plan s o k list more fewest false false e f = inr (inr (not_ready p plan s o k fewest f))
 
 can_go_on : {X L P : Type 0} (p : Plan X) → IsPlan p → (s : State X L P) → Orderly p s → is_complete p s ≡ false → CanGoOn p s

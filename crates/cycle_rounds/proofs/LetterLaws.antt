@@ -1,13 +1,13 @@
 -- Letters, the order of tasks, and leases, in every state that a legal list of events leads to.
-use Rattle.std.proofs.Common.{◌≡◌, ℕ, zero, suc, ◌+◌, ◌*◌, ◌/◌, ◌<◌, ◌≤◌, ◌==◌, Bool, true, false, cond, not, ◌&&◌, nat_lt, Option, Some, None, is_some, List, [], ◌∷◌, ◌++◌, length, filter, find, count_by, refl, arith, ap, sym, subst, ◌∙◌}
+use Rattle.std.proofs.Common.{◌≡◌, ℕ, ◌+◌, ◌/◌, ◌<◌, ◌≤◌, ◌==◌, Bool, true, false, cond, not, ◌&&◌, nat_lt, Option, Some, None, is_some, filter, refl, arith, sym, subst, ◌∙◌}
 use Rattle.std.specs.List.{list_any}
-use Rattle.std.proofs.lemmas.Bool.{and_parts, eqb-false, true≢false}
+use Rattle.std.proofs.lemmas.Bool.{eqb-false}
 use Rattle.cycle_rounds.specs.Plan.{IsPlan, Plan, all_tasks, is_due, is_reading}
-use Rattle.cycle_rounds.specs.Events.{Event, IsHistory, Letter, Machine, State, delivered, is_for, is_legal, is_of, left, put, reads, replay, step}
+use Rattle.cycle_rounds.specs.Events.{Letter, State, delivered, is_for, is_of, reads, replay}
 use Rattle.cycle_rounds.specs.Events.Event.{take, give, deliver}
-use Rattle.cycle_rounds.specs.Protocol.{EachLetterHasItsNumber, EachLetterIsInOnePlace, EventsAreInOrder, IsInOrder, LeasesStay, OthersLeaveItAlone, StaysLeased, copies, is_own, is_under_way}
+use Rattle.cycle_rounds.specs.Protocol.{EachLetterHasItsNumber, EachLetterIsInOnePlace, EventsAreInOrder, LeasesStay, OthersLeaveItAlone, StaysLeased, is_under_way}
 use Rattle.cycle_rounds.proofs.Lists.{any_count, count_any, found, no_count, put_other}
-use Rattle.cycle_rounds.proofs.Orderly.{Orderly, due_count, stays}
+use Rattle.cycle_rounds.proofs.Orderly.{due_count, stays}
 use Rattle.cycle_rounds.proofs.OrderlyKept.{push_any, replay_orderly}
 
 one_by : (a way : Bool) (n : ℕ) (due : Bool) → (due ≡ true → n ≡ 1) → (due ≡ false → n ≡ 0) → cond (a && way) n 0 ≡ cond (a && (due && way)) 1 0

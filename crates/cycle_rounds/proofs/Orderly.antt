@@ -1,12 +1,11 @@
 -- What every event keeps of the order of tasks and letters.
-use Rattle.std.proofs.Common.{◌≡◌, ℕ, zero, suc, ◌+◌, ◌*◌, ◌/◌, ◌%◌, ◌<◌, ◌≤◌, ◌==◌, Bool, true, false, cond, not, ◌&&◌, ◌||◌, ◌⊎◌, inl, inr, nat_lt, nat_le, Option, Some, None, is_some, List, [], ◌∷◌, ◌++◌, length, filter, find, count_by, refl, arith, ap, sym, subst, ◌∙◌, eq-eqb}
-use Rattle.std.specs.List.{list_all, list_any, range_with_len}
-use Rattle.std.proofs.lemmas.Bool.{and_from, and_parts, cases_Bool, cases_eq, cases_lt, eqb-true, false≢true, false_from_ne_true, le-leb, le-ltb, leb-true, lt-ltb, ltb-true, ne_eqb, not-true, true≢false}
-use Rattle.cycle_rounds.specs.Plan.{IsPlan, Plan, all_tasks, is_due, is_reading, is_sending, round_tasks}
-use Rattle.cycle_rounds.specs.Events.{Event, Letter, Machine, State, after, are_legal, begin, delivered, has_come, is_for, is_legal, is_of, is_past, is_ready, is_with, left, letters, may_take, posted, put, step, without}
-use Rattle.cycle_rounds.specs.Events.Event.{take, give, deliver}
+use Rattle.std.proofs.Common.{◌≡◌, ℕ, suc, ◌+◌, ◌*◌, ◌<◌, ◌≤◌, ◌==◌, Bool, true, false, cond, not, ◌&&◌, inl, inr, nat_lt, is_some, List, [], ◌∷◌, length, filter, count_by, refl, arith, ap, sym, ◌∙◌, eq-eqb}
+use Rattle.std.specs.List.{list_any}
+use Rattle.std.proofs.lemmas.Bool.{and_from, and_parts, cases_Bool, cases_eq, cases_lt, eqb-true, false≢true, false_from_ne_true, le-ltb, lt-ltb, ltb-true, ne_eqb}
+use Rattle.cycle_rounds.specs.Plan.{IsPlan, Plan, all_tasks, is_due, round_tasks}
+use Rattle.cycle_rounds.specs.Events.{Letter, State, is_for, is_of, letters}
 use Rattle.cycle_rounds.specs.Protocol.{copies}
-use Rattle.cycle_rounds.proofs.Lists.{all_any, any_count, count_any, count_append, count_cons, count_cons_no, count_filter, count_gone, count_kept, count_push, count_without, found, none_if, one_if, put_other, put_same, range_at, same_if}
+use Rattle.cycle_rounds.proofs.Lists.{count_any, count_cons, count_cons_no, count_gone, count_kept, none_if, one_if, same_if}
 
 -- whether a letter of a round is under way, by the counts of tasks of its sender and its reader
 abbrev pub on_way : ℕ → ℕ → ℕ → ℕ → Bool
@@ -88,6 +87,7 @@ stays {X} {P} p plan q i r x mail apart = count_kept (is_of p r x) (λ l. not (i
     no : (b : Bool) → (b ≡ true → ⊥) → not b ≡ true
     no true h = absurd (h refl)
     no false h = refl
+
     keep : (l : Letter X P) → is_of p r x l ≡ true → not (is_for p q i l) ≡ true
     keep l h = let o = of_is p plan r x l h in no (is_for p q i l) (λ k. let f = for_is p q i l k in apart (sym o.round ∙ f.round) (ap p.to o.of ∙ f.reader))
 
@@ -146,7 +146,7 @@ pub more_numbers : {X P : Type 0} (sent r : ℕ) (content : X → P) (xs : List 
 more_numbers sent r content xs k a h = elim (cases_lt k sent) [
   | inl low ↦ (let z = numbers_below sent r content xs k low in let s = one_if (nat_lt k sent) (lt-ltb k sent low) in let t = one_if (nat_lt k (sent + length xs)) (lt-ltb k (sent + length xs) (omega arith)) in omega arith)
   | inr high ↦ (elim (cases_lt k (sent + length xs)) [
-      | inl low ↦ (let z = numbers_once sent r content xs k in let s = none_if (nat_lt k sent) (le-ltb k sent high) in let t = one_if (nat_lt k (sent + length xs)) (lt-ltb k (sent + length xs) low) in omega arith)
-      | inr past ↦ (let z = numbers_above sent r content xs k past in let s = none_if (nat_lt k sent) (le-ltb k sent high) in let t = none_if (nat_lt k (sent + length xs)) (le-ltb k (sent + length xs) past) in omega arith)
-    ])
+    | inl low ↦ (let z = numbers_once sent r content xs k in let s = none_if (nat_lt k sent) (le-ltb k sent high) in let t = one_if (nat_lt k (sent + length xs)) (lt-ltb k (sent + length xs) low) in omega arith)
+    | inr past ↦ (let z = numbers_above sent r content xs k past in let s = none_if (nat_lt k sent) (le-ltb k sent high) in let t = none_if (nat_lt k (sent + length xs)) (le-ltb k (sent + length xs) past) in omega arith)
+  ])
 ]

@@ -1,15 +1,15 @@
 -- Every legal event keeps the order of tasks and letters.
-use Rattle.std.proofs.Common.{◌≡◌, ℕ, zero, suc, ◌+◌, ◌*◌, ◌/◌, ◌%◌, ◌<◌, ◌≤◌, ◌==◌, Bool, true, false, cond, not, ◌&&◌, ◌||◌, ◌⊎◌, inl, inr, nat_lt, nat_le, Option, Some, None, is_some, List, [], ◌∷◌, ◌++◌, length, filter, find, count_by, refl, arith, ap, sym, subst, ◌∙◌, eq-eqb}
-use Rattle.std.specs.List.{list_all, list_any, range_with_len}
-use Rattle.std.proofs.lemmas.Bool.{and_from, and_parts, cases_Bool, cases_eq, cases_lt, eqb-true, false≢true, ne_eqb}
+use Rattle.std.proofs.Common.{◌≡◌, ℕ, ◌+◌, ◌*◌, ◌/◌, ◌<◌, ◌≤◌, ◌==◌, Bool, true, false, cond, not, inl, inr, nat_lt, Option, Some, None, is_some, List, [], ◌∷◌, ◌++◌, length, filter, find, count_by, refl, arith, ap, sym, subst, ◌∙◌}
+use Rattle.std.specs.List.{list_any}
+use Rattle.std.proofs.lemmas.Bool.{and_parts, cases_eq, cases_lt, false≢true}
 use Rattle.std.proofs.lemmas.List.{append-nil}
-use Rattle.cycle_rounds.specs.Plan.{IsPlan, Plan, all_tasks, is_due, is_reading, is_sending, round_tasks}
-use Rattle.cycle_rounds.specs.Events.{Event, IsHistory, Letter, Machine, State, after, are_legal, begin, delivered, is_for, is_legal, is_of, left, letters, posted, put, replay, step, without}
+use Rattle.cycle_rounds.specs.Plan.{IsPlan, Plan, is_due, is_reading, is_sending, round_tasks}
+use Rattle.cycle_rounds.specs.Events.{Event, IsHistory, Letter, Machine, State, after, are_legal, begin, delivered, is_for, is_legal, is_of, left, posted, put, replay, step, without}
 use Rattle.cycle_rounds.specs.Events.Event.{take, give, deliver}
 use Rattle.cycle_rounds.specs.Protocol.{copies}
 use Rattle.cycle_rounds.proofs.Lists.{any_count, count_any, count_append, count_filter, count_push, count_without, found, put_other, put_same}
-use Rattle.cycle_rounds.proofs.Orderly.{OnWay, Orderly, Somewhere, due_count, leaves, length_letters, more_numbers, no_way, on_way, somewhere, stays}
-use Rattle.cycle_rounds.proofs.OrderlySteps.{Gave, GaveNot, Gives, Reads, Sends, Works, begin_orderly, gave, gives_is, kind_of, no_less, place_stays, send_place, sent_now, take_orderly, takes_is, way_next}
+use Rattle.cycle_rounds.proofs.Orderly.{Orderly, due_count, leaves, length_letters, more_numbers, no_way, on_way, somewhere, stays}
+use Rattle.cycle_rounds.proofs.OrderlySteps.{Gives, Reads, Sends, Works, begin_orderly, gave, gives_is, kind_of, no_less, place_stays, send_place, sent_now, take_orderly, takes_is, way_next}
 
 -- a reading that is given: its letters were delivered, and go
 read_way : {X L P : Type 0} (p : Plan X) (s : State X L P) (i : ℕ) → Orderly p s → Gives p s i → Reads p (s.given i) → (x : X) → p.to x ≡ i → is_due p (s.given i / 3) x ≡ true → 1 ≤ count_by (is_of p (s.given i / 3) x) s.mail
@@ -38,23 +38,27 @@ read_place : {X L P : Type 0} (p : Plan X) → IsPlan p → (s : State X L P) (i
     count_by (is_of p r x) s.wire + count_by (is_of p r x) (filter (λ l. not (is_for p (s.given i / 3) i l)) s.mail) ≡ cond (way_next p s i r x) (due_count p r x) 0
 read_place p plan s i o t k r x = elim (cases_eq r (s.given i / 3)) [
   | inl e ↦ elim (cases_eq (p.to x) i) [
-      | inl to ↦ subst (λ v. count_by (is_of p v x) s.wire + count_by (is_of p v x) (filter (λ l. not (is_for p q i l)) s.mail) ≡ cond (way_next p s i v x) (due_count p v x) 0) (sym e)
-          (both_zero (count_by (is_of p q x) s.wire) (count_by (is_of p q x) (filter (λ l. not (is_for p q i l)) s.mail)) (cond (way_next p s i q x) (due_count p q x) 0)
-              (wire_empty p plan s i o t k x to) (leaves p plan q x i s.mail to)
-              (ap (λ (v : Bool). cond v (due_count p q x) 0) (no_way p.rounds q (put s.given i (s.given i + 1) (p.from x)) (put s.given i (s.given i + 1) (p.to x)) (λ w. read_now to w.unread))))
-      | inr ne ↦ at_rest (λ _ f. ne f)
-    ]
+    | inl to ↦ subst (λ v. count_by (is_of p v x) s.wire + count_by (is_of p v x) (filter (λ l. not (is_for p q i l)) s.mail) ≡ cond (way_next p s i v x) (due_count p v x) 0) (sym e)
+        (both_zero (count_by (is_of p q x) s.wire) (count_by (is_of p q x) (filter (λ l. not (is_for p q i l)) s.mail)) (cond (way_next p s i q x) (due_count p q x) 0)
+        (wire_empty p plan s i o t k x to) (leaves p plan q x i s.mail to)
+        (ap (λ (v : Bool). cond v (due_count p q x) 0) (no_way p.rounds q (put s.given i (s.given i + 1) (p.from x)) (put s.given i (s.given i + 1) (p.to x)) (λ w. read_now to w.unread))))
+    | inr ne ↦ at_rest (λ _ f. ne f)
+  ]
   | inr ne ↦ at_rest (λ f _. ne f)
 ]
   where
     q : ℕ
     q = s.given i / 3
+
     read_now : p.to x ≡ i → put s.given i (s.given i + 1) (p.to x) < 3 * (s.given i / 3) + 2 → ⊥
     read_now to h = let at = k.at in let a = put_same s.given i (p.to x) (s.given i + 1) to in omega arith
+
     not_third : (n : ℕ) → 3 * n ≡ s.given i → ⊥
     not_third n e = let at = k.at in omega arith
+
     third : 3 * r + 1 ≡ s.given i → r ≡ s.given i / 3
     third z = omega arith
+
     at_rest : (r ≡ s.given i / 3 → p.to x ≡ i → ⊥) → count_by (is_of p r x) s.wire + count_by (is_of p r x) (filter (λ l. not (is_for p (s.given i / 3) i l)) s.mail) ≡ cond (way_next p s i r x) (due_count p r x) 0
     at_rest apart = same_sum (count_by (is_of p r x) s.wire) (count_by (is_of p r x) (filter (λ l. not (is_for p (s.given i / 3) i l)) s.mail)) (count_by (is_of p r x) s.mail) (cond (way_next p s i r x) (due_count p r x) 0)
         (stays p plan (s.given i / 3) i r x s.mail apart) (place_stays p s i o r x (λ low f z. not_third r z) (λ low f z. apart (third z) f))
@@ -73,8 +77,8 @@ send_posted {X} {L} {P} p m plan s i o k = record {
   place = send_place p m plan s i o k;
   numbers = λ n. subst (λ v. count_by (λ l. l.number == n) (s.wire ++ sent_now p m s i) + count_by (λ l. l.number == n) s.mail ≤ cond (nat_lt n (s.sent + v)) 1 0) (sym (length_letters s.sent (s.given i / 3) (λ y. m.letter (s.given i / 3) y (s.local i)) from_here))
       (send_numbers (count_by (λ l. l.number == n) s.wire) (count_by (λ l. l.number == n) s.mail) (count_by (λ l. l.number == n) (sent_now p m s i)) (count_by (λ l. l.number == n) (s.wire ++ sent_now p m s i)) (cond (nat_lt n (s.sent + length from_here)) 1 0)
-          (count_append (λ l. l.number == n) s.wire (sent_now p m s i))
-          (more_numbers s.sent (s.given i / 3) (λ y. m.letter (s.given i / 3) y (s.local i)) from_here n (count_by (λ l. l.number == n) s.wire + count_by (λ l. l.number == n) s.mail) (o.numbers n)));
+      (count_append (λ l. l.number == n) s.wire (sent_now p m s i))
+      (more_numbers s.sent (s.given i / 3) (λ y. m.letter (s.given i / 3) y (s.local i)) from_here n (count_by (λ l. l.number == n) s.wire + count_by (λ l. l.number == n) s.mail) (o.numbers n)));
   kept = λ r x ne h. h;
 }
   where
@@ -143,26 +147,33 @@ give_orderly {X} {L} {P} p m plan s seat i o t = let h = give_posted p m plan s 
   where
     idle : (j : ℕ) → j ≡ i → is_some (put s.out i None j) ≡ true → ⊥
     idle j e f = false≢true (sym (ap is_some (put_same s.out i j None e)) ∙ f)
+
     still : (j : ℕ) → (j ≡ i → ⊥) → is_some (put s.out i None j) ≡ true → is_some (s.out j) ≡ true
     still j ne f = ap is_some (sym (put_other s.out i j None ne)) ∙ f
+
     sent_first : (r : ℕ) (x : X) → r < p.rounds → is_due p r x ≡ true → p.to x ≡ i → s.given i ≡ 3 * r + 1 → 3 * r < s.given (p.from x)
     sent_first r x low due to e =
         let a = any_count (is_of p r x) s.mail (o.come r x low due (ap s.given to ∙ e) (ap (λ j. is_some (s.out j)) to ∙ t.busy)) in
         (somewhere p s o r x (omega arith)).way.sent
+
     ordered : (r : ℕ) (x : X) → r < p.rounds → is_due p r x ≡ true → 3 * r + 2 ≤ put s.given i (s.given i + 1) (p.to x) → 3 * r < put s.given i (s.given i + 1) (p.from x)
     ordered r x low due h = let mono = no_less s i (p.from x) in elim (cases_lt (s.given (p.to x)) (3 * r + 2)) [
       | inr high ↦ (let a = o.order r x low due high in omega arith)
       | inl less ↦ elim (gave s i (p.to x)) [
-          | inl w ↦ (let b = w.old in let c = w.new in let a = sent_first r x low due w.same (omega arith) in omega arith)
-          | inr w ↦ (let c = w.new in absurd (omega arith))
-        ]
+        | inl w ↦ (let b = w.old in let c = w.new in let a = sent_first r x low due w.same (omega arith) in omega arith)
+        | inr w ↦ (let c = w.new in absurd (omega arith))
+      ]
     ]
+
     no_lease : (a : ℕ) → a ≡ i → ◌≡◌ {A = ℕ} (cond (is_some (put s.out i None a)) 1 0) 0
     no_lease a e = ap (λ (v : Option ℕ). cond (is_some v) 1 0) (put_same s.out i a None e)
+
     leased : ◌≡◌ {A = ℕ} (cond (is_some (s.out i)) 1 0) 1
     leased = ap (λ (v : Bool). cond v 1 0) t.busy
+
     same_lease : (a : ℕ) → (a ≡ i → ⊥) → ◌≡◌ {A = ℕ} (cond (is_some (put s.out i None a)) 1 0) (cond (is_some (s.out a)) 1 0)
     same_lease a ne = ap (λ (v : Option ℕ). cond (is_some v) 1 0) (put_other s.out i a None ne)
+
     past : (a j : ℕ) → round_tasks p < put s.given i (s.given i + 1) a + cond (is_some (put s.out i None a)) 1 0 → j < p.lists → round_tasks p ≤ put s.given i (s.given i + 1) j
     past a j h l = let mono = no_less s i j in elim (gave s i a) [
       | inl w ↦ (let b = w.new in let c = no_lease a w.same in let d = leased in let e = o.barrier i j (omega arith) l in omega arith)

@@ -1,13 +1,13 @@
 -- Each legal event keeps the order of tasks and letters.
-use Rattle.std.proofs.Common.{◌≡◌, ℕ, zero, suc, ◌+◌, ◌*◌, ◌/◌, ◌%◌, ◌<◌, ◌≤◌, ◌==◌, Bool, true, false, cond, not, ◌&&◌, ◌||◌, ◌⊎◌, inl, inr, nat_lt, nat_le, zero-le, Option, Some, None, is_some, List, [], ◌∷◌, ◌++◌, length, filter, find, count_by, refl, arith, ap, sym, subst, ◌∙◌, eq-eqb, append-nil}
-use Rattle.std.specs.List.{list_all, list_any, range_with_len}
-use Rattle.std.proofs.lemmas.Bool.{and_from, and_parts, cases_Bool, cases_eq, cases_lt, eqb-true, false≢true, false_from_ne_true, le-leb, le-ltb, leb-true, lt-ltb, ltb-true, ne_eqb, not-true, true≢false}
+use Rattle.std.proofs.Common.{◌≡◌, ℕ, ◌+◌, ◌*◌, ◌/◌, ◌%◌, ◌<◌, ◌≤◌, ◌==◌, Bool, true, false, cond, not, ◌&&◌, ◌||◌, ◌⊎◌, inl, inr, nat_lt, nat_le, Option, Some, None, is_some, List, ◌++◌, filter, count_by, refl, arith, ap, sym, subst, ◌∙◌, eq-eqb}
+use Rattle.std.specs.List.{list_any}
+use Rattle.std.proofs.lemmas.Bool.{and_from, and_parts, cases_eq, cases_lt, eqb-true, false≢true, false_from_ne_true, le-ltb, leb-true, lt-ltb, ltb-true, ne_eqb, not-true}
 use Rattle.cycle_rounds.specs.Plan.{IsPlan, Plan, all_tasks, is_due, is_reading, is_sending, round_tasks}
-use Rattle.cycle_rounds.specs.Events.{Event, Letter, Machine, State, after, are_legal, begin, delivered, has_come, is_for, is_legal, is_of, is_past, is_ready, is_with, left, letters, may_take, posted, put, replay, step, without}
-use Rattle.cycle_rounds.specs.Events.Event.{take, give, deliver}
+use Rattle.cycle_rounds.specs.Events.{Letter, Machine, State, begin, has_come, is_legal, is_of, is_past, is_ready, is_with, letters, may_take, put, step}
+use Rattle.cycle_rounds.specs.Events.Event.{take, give}
 use Rattle.cycle_rounds.specs.Protocol.{copies}
-use Rattle.cycle_rounds.proofs.Lists.{all_any, any_count, count_any, count_append, count_cons, count_cons_no, count_filter, count_gone, count_kept, count_push, count_without, found, no_count, put_other, put_same, range_at}
-use Rattle.cycle_rounds.proofs.Orderly.{IsFor, IsOf, OnWay, Orderly, Somewhere, due_count, is_way, leaves, length_letters, letters_of_others, letters_of_round, more_numbers, no_way, of_is, on_way, same_way, somewhere, stays}
+use Rattle.cycle_rounds.proofs.Lists.{all_any, count_append, count_gone, count_kept, no_count, put_other, put_same, range_at}
+use Rattle.cycle_rounds.proofs.Orderly.{Orderly, due_count, is_way, letters_of_others, letters_of_round, no_way, on_way, same_way}
 
 pub begin_orderly : {X L P : Type 0} (p : Plan X) (m : Machine X L P) → Orderly p (begin m)
 begin_orderly p m = record {
@@ -81,6 +81,7 @@ take_orderly {X} {L} {P} p m plan s seat i o t = record {
     one_at_most : (b : Bool) → cond b 1 0 ≤ 1
     one_at_most true = omega arith
     one_at_most false = omega arith
+
     at_end : (a : ℕ) → a ≡ i → round_tasks p < s.given a + cond (is_some (put s.out i (Some seat) a)) 1 0 → round_tasks p ≤ s.given i
     at_end a e h = let c = one_at_most (is_some (put s.out i (Some seat) a)) in let d = ap s.given e in omega arith
 
@@ -141,33 +142,32 @@ no_test a x y h = false_from_ne_true (a && x == y) (λ e. let k = and_parts a (x
 pub kind_of : {X : Type 0} (p : Plan X) (g : ℕ) → Sends p g ⊎ (Reads p g ⊎ Works p g)
 kind_of p g = elim (cases_lt g (round_tasks p)) [
   | inr high ↦ inr (inr (record {
-      neither = λ r h. (λ e. omega arith, λ e. omega arith);
-      sending = no_test (nat_lt g (round_tasks p)) (g % 3) 0 (λ e k. let l = ltb-true g (round_tasks p) e in omega arith);
-      reading = no_test (nat_lt g (round_tasks p)) (g % 3) 1 (λ e k. let l = ltb-true g (round_tasks p) e in omega arith);
-    }))
+    neither = λ r h. (λ e. omega arith, λ e. omega arith);
+    sending = no_test (nat_lt g (round_tasks p)) (g % 3) 0 (λ e k. let l = ltb-true g (round_tasks p) e in omega arith);
+    reading = no_test (nat_lt g (round_tasks p)) (g % 3) 1 (λ e k. let l = ltb-true g (round_tasks p) e in omega arith);
+  }))
   | inl low ↦ elim (cases_eq (g % 3) 0) [
-      | inl e ↦ inl (record {
-          round = omega arith;
-          at = omega arith;
-          sending = and_from (nat_lt g (round_tasks p)) (g % 3 == 0) (lt-ltb g (round_tasks p) low) (eq-eqb (g % 3) 0 e);
-          reading = no_test (nat_lt g (round_tasks p)) (g % 3) 1 (λ _ k. omega arith);
-        })
-      | inr ne ↦ elim (cases_eq (g % 3) 1) [
-          | inl e ↦ inr (inl (record {
-              round = omega arith;
-              at = omega arith;
-              sending = no_test (nat_lt g (round_tasks p)) (g % 3) 0 (λ _ k. omega arith);
-              reading = and_from (nat_lt g (round_tasks p)) (g % 3 == 1) (lt-ltb g (round_tasks p) low) (eq-eqb (g % 3) 1 e);
-            }))
-          | inr other ↦ inr (inr (record {
-              neither = λ r h. (λ k. ne (omega arith), λ k. other (omega arith));
-              sending = no_test (nat_lt g (round_tasks p)) (g % 3) 0 (λ _ k. ne k);
-              reading = no_test (nat_lt g (round_tasks p)) (g % 3) 1 (λ _ k. other k);
-            }))
-        ]
+    | inl e ↦ inl (record {
+      round = omega arith;
+      at = omega arith;
+      sending = and_from (nat_lt g (round_tasks p)) (g % 3 == 0) (lt-ltb g (round_tasks p) low) (eq-eqb (g % 3) 0 e);
+      reading = no_test (nat_lt g (round_tasks p)) (g % 3) 1 (λ _ k. omega arith);
+    })
+    | inr ne ↦ elim (cases_eq (g % 3) 1) [
+      | inl e ↦ inr (inl (record {
+        round = omega arith;
+        at = omega arith;
+        sending = no_test (nat_lt g (round_tasks p)) (g % 3) 0 (λ _ k. omega arith);
+        reading = and_from (nat_lt g (round_tasks p)) (g % 3 == 1) (lt-ltb g (round_tasks p) low) (eq-eqb (g % 3) 1 e);
+      }))
+      | inr other ↦ inr (inr (record {
+        neither = λ r h. (λ k. ne (omega arith), λ k. other (omega arith));
+        sending = no_test (nat_lt g (round_tasks p)) (g % 3) 0 (λ _ k. ne k);
+        reading = no_test (nat_lt g (round_tasks p)) (g % 3) 1 (λ _ k. other k);
+      }))
     ]
+  ]
 ]
-
 
 abbrev pub way_now : {X L P : Type 0} → Plan X → State X L P → ℕ → X → Bool
 way_now p s r x = on_way p.rounds r (s.given (p.from x)) (s.given (p.to x))
@@ -187,6 +187,7 @@ way_stays p s i r x no_send no_read =
       | inl w ↦ (let a = w.old in let b = w.new in let c : 3 * r + 1 ≡ s.given i → ⊥ = no_read low w.same in omega arith)
       | inr w ↦ (let b = w.new in omega arith)
     ]
+
     back : r < p.rounds → 3 * r < put s.given i (s.given i + 1) (p.from x) → 3 * r < s.given (p.from x)
     back low h = elim (gave s i (p.from x)) [
       | inl w ↦ (let a = w.old in let b = w.new in let c : 3 * r ≡ s.given i → ⊥ = no_send low w.same in omega arith)
@@ -229,9 +230,9 @@ unread_yet p s i o k x own due =
     elim (gave s i (p.to x)) [
       | inl w ↦ (let b = w.new in omega arith)
       | inr w ↦ (let b = w.new in elim (cases_lt (s.given (p.to x)) (3 * (s.given i / 3) + 2)) [
-          | inl low ↦ omega arith
-          | inr high ↦ (let c = o.order (s.given i / 3) x k.round due high in absurd (omega arith))
-        ])
+        | inl low ↦ omega arith
+        | inr high ↦ (let c = o.order (s.given i / 3) x k.round due high in absurd (omega arith))
+      ])
     ]
 
 due_none : {X : Type 0} (p : Plan X) (r : ℕ) (x : X) (b : Bool) → is_due p r x ≡ false → cond b (due_count p r x) 0 ≡ 0
@@ -250,19 +251,22 @@ pub send_place : {X L P : Type 0} (p : Plan X) (m : Machine X L P) → IsPlan p 
     count_by (is_of p r x) (s.wire ++ sent_now p m s i) + count_by (is_of p r x) s.mail ≡ cond (way_next p s i r x) (due_count p r x) 0
 send_place {X} {L} {P} p m plan s i o k r x = elim (cases_eq (s.given i / 3) r) [
   | inl e ↦ subst (λ v. count_by (is_of p v x) (s.wire ++ sent_now p m s i) + count_by (is_of p v x) s.mail ≡ cond (way_next p s i v x) (due_count p v x) 0) e (elim (cases_eq (p.from x) i) [
-      | inl own ↦ added_new (count_by (is_of p q x) (s.wire ++ sent_now p m s i)) (count_by (is_of p q x) s.wire) (count_by (is_of p q x) (sent_now p m s i)) (count_by (is_of p q x) s.mail) (cond (way_next p s i q x) (due_count p q x) 0)
-          (count_append (is_of p q x) s.wire (sent_now p m s i)) (nowhere_before p s i o k x own) (sent_own p m plan s i x own ∙ send_own_by p s i o k x own (is_due p q x) refl)
-      | inr ne ↦ at_rest q (sent_other p m plan s i x ne) (λ low f. absurd (ne f)) (λ low f z. wrong q z)
-    ])
+    | inl own ↦ added_new (count_by (is_of p q x) (s.wire ++ sent_now p m s i)) (count_by (is_of p q x) s.wire) (count_by (is_of p q x) (sent_now p m s i)) (count_by (is_of p q x) s.mail) (cond (way_next p s i q x) (due_count p q x) 0)
+        (count_append (is_of p q x) s.wire (sent_now p m s i)) (nowhere_before p s i o k x own) (sent_own p m plan s i x own ∙ send_own_by p s i o k x own (is_due p q x) refl)
+    | inr ne ↦ at_rest q (sent_other p m plan s i x ne) (λ low f. absurd (ne f)) (λ low f z. wrong q z)
+  ])
   | inr ne ↦ at_rest r (sent_before p m s i r x ne) (λ low f z. ne (third z)) (λ low f z. wrong r z)
 ]
   where
     q : ℕ
     q = s.given i / 3
+
     third : 3 * r ≡ s.given i → s.given i / 3 ≡ r
     third z = omega arith
+
     wrong : (n : ℕ) → 3 * n + 1 ≡ s.given i → ⊥
     wrong n z = let at = k.at in omega arith
+
     at_rest : (n : ℕ) → count_by (is_of p n x) (sent_now p m s i) ≡ 0 → (n < p.rounds → p.from x ≡ i → 3 * n ≡ s.given i → ⊥) → (n < p.rounds → p.to x ≡ i → 3 * n + 1 ≡ s.given i → ⊥) →
         count_by (is_of p n x) (s.wire ++ sent_now p m s i) + count_by (is_of p n x) s.mail ≡ cond (way_next p s i n x) (due_count p n x) 0
     at_rest n z a b = added (count_by (is_of p n x) (s.wire ++ sent_now p m s i)) (count_by (is_of p n x) s.wire) (count_by (is_of p n x) (sent_now p m s i)) (count_by (is_of p n x) s.mail) (cond (way_next p s i n x) (due_count p n x) 0)

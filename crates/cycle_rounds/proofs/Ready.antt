@@ -1,16 +1,15 @@
 -- The counts that single events keep up tell which lists can go on.
-use Rattle.std.proofs.Common.{◌≡◌, ℕ, zero, suc, ◌+◌, ◌*◌, ◌/◌, ◌%◌, ◌<◌, ◌≤◌, ◌==◌, Bool, true, false, cond, not, ◌&&◌, ◌||◌, inl, inr, nat_lt, nat_le, Option, Some, None, is_some, List, [], ◌∷◌, ◌++◌, length, filter, find, count_by, sum_by, refl, arith, ap, sym, subst, ◌∙◌, eq-eqb}
+use Rattle.std.proofs.Common.{◌≡◌, ℕ, zero, suc, ◌+◌, ◌/◌, ◌<◌, ◌≤◌, ◌==◌, Bool, true, false, cond, not, ◌&&◌, ◌||◌, inl, inr, nat_lt, nat_le, Option, Some, None, is_some, List, [], ◌∷◌, ◌++◌, length, filter, count_by, sum_by, refl, arith, ap, sym, subst, ◌∙◌, eq-eqb}
 use Rattle.std.specs.List.{list_all, list_any, range_with_len}
-use Rattle.std.proofs.lemmas.Bool.{and_from, and_parts, and_right, cases_Bool, cases_eq, cases_lt, eqb-true, eqb-false, false≢true, false_from_ne_true, le-leb, le-ltb, lt-leb, lt-ltb, ltb-true, ne_eqb, true≢false, true_from_ne_false}
+use Rattle.std.proofs.lemmas.Bool.{and_from, and_parts, and_right, cases_Bool, cases_eq, cases_lt, eqb-true, eqb-false, false≢true, false_from_ne_true, le-leb, lt-leb, ne_eqb, true≢false, true_from_ne_false}
 use Rattle.std.proofs.lemmas.List.Sums.{sum_by-cons}
 use Rattle.cycle_rounds.specs.Plan.{IsPlan, Plan, all_tasks, is_due, is_reading, round_tasks}
-use Rattle.cycle_rounds.specs.Events.{Event, IsHistory, Letter, Machine, State, after, are_legal, begin, delivered, has_come, is_for, is_legal, is_of, is_past, is_ready, left, may_take, put, replay, step}
+use Rattle.cycle_rounds.specs.Events.{Event, Letter, Machine, State, after, are_legal, begin, delivered, has_come, is_for, is_legal, is_of, is_past, is_ready, left, may_take, put, step}
 use Rattle.cycle_rounds.specs.Events.Event.{take, give, deliver}
-use Rattle.cycle_rounds.specs.Protocol.{copies}
-use Rattle.cycle_rounds.specs.Readiness.{Counts, CountsAreOf, CountsTellTheTruth, come_given, counts_after, counts_along, counts_delivered, counts_given, due_to, first_counts, first_past, is_last, may_by, past_given, put_at, ready_by, with_given, with_letter}
-use Rattle.cycle_rounds.proofs.Lists.{any_count, count_any, count_cons, count_cons_yes, count_cons_no, count_gone, count_kept, count_push, count_same, found, no_count, none_if, one_if, put_other, put_same, range_sum_changed, range_sum_same, same_if, all_length, length_count}
-use Rattle.cycle_rounds.proofs.Orderly.{Orderly, Somewhere, due_count, for_is, is_for_from, of_is, on_way, own_test, somewhere, stays}
-use Rattle.cycle_rounds.proofs.OrderlySteps.{Gave, GaveNot, Gives, Takes, begin_orderly, gave, gives_is, takes_is}
+use Rattle.cycle_rounds.specs.Readiness.{Counts, CountsAreOf, CountsTellTheTruth, come_given, counts_after, counts_along, counts_delivered, due_to, first_counts, first_past, is_last, may_by, past_given, put_at, with_given, with_letter}
+use Rattle.cycle_rounds.proofs.Lists.{any_count, count_any, count_cons, count_cons_yes, count_cons_no, count_gone, count_kept, count_push, found, no_count, none_if, one_if, put_other, put_same, range_sum_changed, all_length, length_count}
+use Rattle.cycle_rounds.proofs.Orderly.{Orderly, due_count, for_is, is_for_from, of_is, on_way, own_test, somewhere, stays}
+use Rattle.cycle_rounds.proofs.OrderlySteps.{begin_orderly, gives_is}
 use Rattle.cycle_rounds.proofs.OrderlyKept.{step_orderly}
 use Rattle.cycle_rounds.proofs.Each.{Each, each_any, each_in}
 
@@ -33,6 +32,7 @@ sums_part f g q le eq lt (x ∷ xs) =
   where
     all_same : (list_all q xs ≡ true → sum_by f xs ≡ sum_by g xs) → list_all q (x ∷ xs) ≡ true → sum_by f (x ∷ xs) ≡ sum_by g (x ∷ xs)
     all_same again h = let p = and_parts (q x) (list_all q xs) h in let e = again p.1 in let d = eq x p.0 in let a = sum_by-cons f x xs in let b = sum_by-cons g x xs in omega arith
+
     all_less : (list_all q xs ≡ false → sum_by f xs < sum_by g xs) → (list_all q xs ≡ true → sum_by f xs ≡ sum_by g xs) → list_all q (x ∷ xs) ≡ false → sum_by f (x ∷ xs) < sum_by g (x ∷ xs)
     all_less less same h = let a = sum_by-cons f x xs in let b = sum_by-cons g x xs in let l = le x in elim (cases_Bool (list_all q xs)) [
       | inl all ↦ (let e = same all in let d = lt x (false_from_ne_true (q x) (λ t. true≢false (sym (and_from (q x) (list_all q xs) t all) ∙ h))) in omega arith)
@@ -71,9 +71,9 @@ one_letter : {X P : Type 0} (p : Plan X) → IsPlan p → (r i : ℕ) (l : Lette
 one_letter {X} {P} p plan r i l due true h =
     let f = for_is p r i l h in
     let a = sum_same (of_letter p l r i) (λ x. cond (p.same l.of x) 1 0) (λ x. one_of (p.to x == i) (is_of p r x l) (p.same l.of x)
-        (λ e. eq-eqb (p.to x) i (ap p.to (sym (plan.same_is l.of x e)) ∙ f.reader))
-        (λ e. and_from (l.round == r) (p.same x l.of) (eq-eqb l.round r f.round) (ap (λ v. p.same x v) (plan.same_is l.of x e) ∙ plan.is_same x))
-        (λ _ e. let k = and_parts (l.round == r) (p.same x l.of) e in ap (λ v. p.same l.of v) (plan.same_is x l.of k.1) ∙ plan.is_same l.of)) (p.due r) in
+    (λ e. eq-eqb (p.to x) i (ap p.to (sym (plan.same_is l.of x e)) ∙ f.reader))
+    (λ e. and_from (l.round == r) (p.same x l.of) (eq-eqb l.round r f.round) (ap (λ v. p.same x v) (plan.same_is l.of x e) ∙ plan.is_same x))
+    (λ _ e. let k = and_parts (l.round == r) (p.same x l.of) e in ap (λ v. p.same l.of v) (plan.same_is x l.of k.1) ∙ plan.is_same l.of)) (p.due r) in
     let b = any_count (p.same l.of) (p.due r) (subst (λ q. is_due p q l.of ≡ true) f.round due) in
     let c = plan.once r l.of in
     omega arith
@@ -91,6 +91,7 @@ come_sum {X} {P} p plan r i [] h = sym (sum_none (of_list p no_letters r i) (λ 
   where
     no_letters : List (Letter X P)
     no_letters = []
+
     nothing : (b : Bool) → ◌≡◌ {A = ℕ} (cond b 0 0) 0
     nothing true = refl
     nothing false = refl
@@ -129,12 +130,12 @@ come_by : {X L P : Type 0} (p : Plan X) → IsPlan p → (s : State X L P) → O
 come_by p plan s o r i =
     let a = come_sum p plan r i s.mail (mail_due p plan s o) in
     let c = sums_part (of_list p s.mail r i) (λ x. cond (p.to x == i) 1 0) (λ x. not (p.to x == i) || list_any (is_of p r x) s.mail)
-        (λ x. of_most (p.to x == i) (count_by (is_of p r x) s.mail) (at_most_once p plan s o r x))
-        (λ x. of_all (p.to x == i) (list_any (is_of p r x) s.mail) (count_by (is_of p r x) s.mail) (at_most_once p plan s o r x) (any_count (is_of p r x) s.mail))
-        (λ x. of_less (p.to x == i) (list_any (is_of p r x) s.mail) (count_by (is_of p r x) s.mail) (no_count (is_of p r x) s.mail)) (p.due r) in
+    (λ x. of_most (p.to x == i) (count_by (is_of p r x) s.mail) (at_most_once p plan s o r x))
+    (λ x. of_all (p.to x == i) (list_any (is_of p r x) s.mail) (count_by (is_of p r x) s.mail) (at_most_once p plan s o r x) (any_count (is_of p r x) s.mail))
+    (λ x. of_less (p.to x == i) (list_any (is_of p r x) s.mail) (count_by (is_of p r x) s.mail) (no_count (is_of p r x) s.mail)) (p.due r) in
     same_answer (has_come p s.mail r i) (count_by (is_for p r i) s.mail == due_to p i r)
-        (λ h. eq-eqb (count_by (is_for p r i) s.mail) (due_to p i r) (a ∙ c.1 h))
-        (λ h. let e = eqb-true (count_by (is_for p r i) s.mail) (due_to p i r) h in true_from_ne_false (has_come p s.mail r i) (λ f. let l = c.2 f in absurd (omega arith)))
+    (λ h. eq-eqb (count_by (is_for p r i) s.mail) (due_to p i r) (a ∙ c.1 h))
+    (λ h. let e = eqb-true (count_by (is_for p r i) s.mail) (due_to p i r) h in true_from_ne_false (has_come p s.mail r i) (λ f. let l = c.2 f in absurd (omega arith)))
 
 length_range : (a n : ℕ) → length (range_with_len a n) ≡ n
 length_range a zero = refl
@@ -155,8 +156,8 @@ past_by p s =
     let a = length_range 0 p.lists in
     let c = all_by_count q (range_with_len 0 p.lists) in
     same_answer (is_past p s) (count_by q (range_with_len 0 p.lists) == p.lists)
-        (λ h. eq-eqb (count_by q (range_with_len 0 p.lists)) p.lists (all_length q (range_with_len 0 p.lists) h ∙ a))
-        (λ h. let e = eqb-true (count_by q (range_with_len 0 p.lists)) p.lists h in true_from_ne_false (is_past p s) (λ f. let l = c.1 f in absurd (omega arith)))
+    (λ h. eq-eqb (count_by q (range_with_len 0 p.lists)) p.lists (all_length q (range_with_len 0 p.lists) h ∙ a))
+    (λ h. let e = eqb-true (count_by q (range_with_len 0 p.lists)) p.lists h in true_from_ne_false (is_past p s) (λ f. let l = c.1 f in absurd (omega arith)))
 
 -- the test by counts is the test of what is legal
 may_by_is : {X L P : Type 0} (p : Plan X) → IsPlan p → (s : State X L P) → Orderly p s → (c : Counts) → ((i r : ℕ) → c.come i r ≡ count_by (is_for p r i) s.mail) → c.past ≡ count_by (λ j. nat_le (round_tasks p) (s.given j)) (range_with_len 0 p.lists) → (i : ℕ) → may_by p s c i ≡ may_take p s i
@@ -209,6 +210,7 @@ given_come {X} {L} {P} p s c i h true j r = by (j == i && r == q) refl
   where
     q : ℕ
     q = s.given i / 3
+
     by : (b : Bool) → (j == i && r == s.given i / 3) ≡ b → cond b 0 (c.come j r) ≡ count_by (is_for p r j) (filter (λ l. not (is_for p (s.given i / 3) i l)) s.mail)
     by true e = let k = and_parts (j == i) (r == q) e in sym (count_gone (is_for p r j) (λ l. not (is_for p q i l)) (λ l f. let o = for_is p r j l f in ap not (is_for_from p q i l (o.round ∙ eqb-true r q k.1) (o.reader ∙ eqb-true j i k.0))) s.mail)
     by false e = h j r ∙ sym (count_kept (is_for p r j) (λ l. not (is_for p q i l)) (λ l f. ap not (false_from_ne_true (is_for p q i l) (λ t. let o = for_is p r j l f in let u = for_is p q i l t in
@@ -223,12 +225,14 @@ given_past p s c i low h =
     steps n r = elim (cases_lt (n + 1) r) [
       | inl less ↦ (let a = none_if (nat_le r (n + 1)) (lt-leb r (n + 1) less) in let b = none_if (nat_le r n) (lt-leb r n (omega arith)) in let c = none_if (n + 1 == r) (ne_eqb (n + 1) r (λ e. omega arith)) in omega arith)
       | inr more ↦ elim (cases_eq (n + 1) r) [
-          | inl e ↦ (let a = one_if (nat_le r (n + 1)) (le-leb r (n + 1) more) in let b = none_if (nat_le r n) (lt-leb r n (omega arith)) in let c = one_if (n + 1 == r) (eq-eqb (n + 1) r e) in omega arith)
-          | inr ne ↦ (let a = one_if (nat_le r (n + 1)) (le-leb r (n + 1) more) in let b = one_if (nat_le r n) (le-leb r n (omega arith)) in let c = none_if (n + 1 == r) (ne_eqb (n + 1) r ne) in omega arith)
-        ]
+        | inl e ↦ (let a = one_if (nat_le r (n + 1)) (le-leb r (n + 1) more) in let b = none_if (nat_le r n) (lt-leb r n (omega arith)) in let c = one_if (n + 1 == r) (eq-eqb (n + 1) r e) in omega arith)
+        | inr ne ↦ (let a = one_if (nat_le r (n + 1)) (le-leb r (n + 1) more) in let b = one_if (nat_le r n) (le-leb r n (omega arith)) in let c = none_if (n + 1 == r) (ne_eqb (n + 1) r ne) in omega arith)
+      ]
     ]
+
     here : ◌≡◌ {A = ℕ} (cond (nat_le (round_tasks p) (put s.given i (s.given i + 1) i)) 1 0) (cond (nat_le (round_tasks p) (s.given i)) 1 0 + cond (s.given i + 1 == round_tasks p) 1 0)
     here = ap (λ n. cond (nat_le (round_tasks p) n) 1 0) (put_same s.given i i (s.given i + 1) refl) ∙ steps (s.given i) (round_tasks p)
+
     others : (j : ℕ) → (j ≡ i → ⊥) → ◌≡◌ {A = ℕ} (cond (nat_le (round_tasks p) (put s.given i (s.given i + 1) j)) 1 0) (cond (nat_le (round_tasks p) (s.given j)) 1 0)
     others j ne = ap (λ n. cond (nat_le (round_tasks p) n) 1 0) (put_other s.given i j (s.given i + 1) ne)
 
@@ -243,6 +247,7 @@ past_stays p s next c i h k e =
   where
     most : past_given p s c i ≤ p.lists
     most = let a = (all_by_count (λ j. nat_le (round_tasks p) (next.given j)) (range_with_len 0 p.lists)).0 in let b = length_range 0 p.lists in omega arith
+
     by : (b : Bool) → (s.given i + 1 == round_tasks p) ≡ b → (b && past_given p s c i == p.lists) ≡ false → (past_given p s c i == p.lists) ≡ (c.past == p.lists)
     by true f g = let a = one_if (s.given i + 1 == round_tasks p) f in let m = most in let n : past_given p s c i ≡ p.lists → ⊥ = eqb-false (past_given p s c i) p.lists g in
         g ∙ sym (ne_eqb c.past p.lists (λ l. omega arith))
@@ -256,23 +261,29 @@ given_counts {X} {L} {P} p m plan s c seat i o low h = record { come = come; pas
   where
     next : State X L P
     next = step p m s (give seat i)
+
     come : (j r : ℕ) → come_given p s c i j r ≡ count_by (is_for p r j) (left p s i)
     come j r = given_come p s c i h.come (is_reading p (s.given i)) j r
+
     past : past_given p s c i ≡ count_by (λ j. nat_le (round_tasks p) (put s.given i (s.given i + 1) j)) (range_with_len 0 p.lists)
     past = given_past p s c i low h.past
+
     tested : (j : ℕ) → may_by p (step p m s (give seat i)) (with_given p s c i) j ≡ may_take p (step p m s (give seat i)) j
     tested j = may_by_is p plan (step p m s (give seat i)) o (with_given p s c i) (given_come p s c i h.come (is_reading p (s.given i))) (given_past p s c i low h.past) j
+
     other : (j : ℕ) → (j ≡ i → ⊥) → is_last p s c i ≡ false → may_take p (step p m s (give seat i)) j ≡ may_take p s j
     other j ne e =
         let g = put_other s.given i j (s.given i + 1) ne in
         may_same p j (is_some (put s.out i None j)) (is_some (s.out j)) (put s.given i (s.given i + 1) j) (s.given j) (is_ready p (step p m s (give seat i)) j) (is_ready p s j)
-            (ap is_some (put_other s.out i j None ne)) g
-            (ready_same p (put s.given i (s.given i + 1) j) (s.given j) (has_come p (left p s i) (put s.given i (s.given i + 1) j / 3) j) (has_come p s.mail (s.given j / 3) j) (is_past p (step p m s (give seat i))) (is_past p s) g
-                (ap (λ n. has_come p (left p s i) (n / 3) j) g ∙ come_same p s.mail (left p s i) (s.given j / 3) j (λ x to. left_count_by p plan s i j (s.given j / 3) x to ne (is_reading p (s.given i))))
-                (past_stays p s (step p m s (give seat i)) c i h.past (given_past p s c i low h.past) e))
+        (ap is_some (put_other s.out i j None ne)) g
+        (ready_same p (put s.given i (s.given i + 1) j) (s.given j) (has_come p (left p s i) (put s.given i (s.given i + 1) j / 3) j) (has_come p s.mail (s.given j / 3) j) (is_past p (step p m s (give seat i))) (is_past p s) g
+        (ap (λ n. has_come p (left p s i) (n / 3) j) g ∙ come_same p s.mail (left p s i) (s.given j / 3) j (λ x to. left_count_by p plan s i j (s.given j / 3) x to ne (is_reading p (s.given i))))
+        (past_stays p s (step p m s (give seat i)) c i h.past (given_past p s c i low h.past) e))
+
     one : (j : ℕ) → is_last p s c i ≡ false → (b : Bool) → (j == i) ≡ b → cond b (may_by p (step p m s (give seat i)) (with_given p s c i) i) (c.ready j) ≡ may_take p (step p m s (give seat i)) j
     one j e true f = ap (may_by p (step p m s (give seat i)) (with_given p s c i)) (sym (eqb-true j i f)) ∙ tested j
     one j e false f = h.ready j ∙ sym (other j (eqb-false j i f) e)
+
     ready : (b : Bool) → is_last p s c i ≡ b → (j : ℕ) → cond b (may_by p (step p m s (give seat i)) (with_given p s c i)) (put c.ready i (may_by p (step p m s (give seat i)) (with_given p s c i) i)) j ≡ may_take p (step p m s (give seat i)) j
     ready true e j = tested j
     ready false e j = one j e (j == i) refl
@@ -290,22 +301,28 @@ delivered_counts {X} {L} {P} p m plan s c k l o h = record { come = come; past =
     at_place j r = same_answer (j == p.to l.of && r == l.round) (is_for p r j l)
         (λ e. let a = and_parts (j == p.to l.of) (r == l.round) e in is_for_from p r j l (sym (eqb-true r l.round a.1)) (sym (eqb-true j (p.to l.of) a.0)))
         (λ e. let f = for_is p r j l e in and_from (j == p.to l.of) (r == l.round) (eq-eqb j (p.to l.of) (sym f.reader)) (eq-eqb r l.round (sym f.round)))
+
     more : (j r : ℕ) (b : Bool) → (j == p.to l.of && r == l.round) ≡ b → cond b (c.come (p.to l.of) l.round + 1) (c.come j r) ≡ cond b (c.come j r + 1) (c.come j r)
     more j r true e = let a = and_parts (j == p.to l.of) (r == l.round) e in ap (λ i. c.come i l.round + 1) (sym (eqb-true j (p.to l.of) a.0)) ∙ ap (λ q. c.come j q + 1) (sym (eqb-true r l.round a.1))
     more j r false e = refl
+
     come : (j r : ℕ) → (with_letter p c l).come j r ≡ count_by (is_for p r j) (s.mail ++ l ∷ [])
     come j r = more j r (j == p.to l.of && r == l.round) refl ∙ more_by (j == p.to l.of && r == l.round) (is_for p r j l) (c.come j r) (count_by (is_for p r j) s.mail) (at_place j r) (h.come j r) ∙ sym (count_push (is_for p r j) s.mail l)
+
     tested : (j : ℕ) → may_by p (delivered p m s k (Some l)) (with_letter p c l) j ≡ may_take p (delivered p m s k (Some l)) j
     tested j = may_by_is p plan (delivered p m s k (Some l)) o (with_letter p c l) come h.past j
+
     other : (j : ℕ) → (j ≡ p.to l.of → ⊥) → may_take p (delivered p m s k (Some l)) j ≡ may_take p s j
     other j ne = may_same p j (is_some (s.out j)) (is_some (s.out j)) (s.given j) (s.given j) (is_ready p (delivered p m s k (Some l)) j) (is_ready p s j) refl refl
         (ready_same p (s.given j) (s.given j) (has_come p (s.mail ++ l ∷ []) (s.given j / 3) j) (has_come p s.mail (s.given j / 3) j) (is_past p s) (is_past p s) refl
-            (come_same p s.mail (s.mail ++ l ∷ []) (s.given j / 3) j (λ x to. count_push (is_of p (s.given j / 3) x) s.mail l ∙ no_other x to)) refl)
+        (come_same p s.mail (s.mail ++ l ∷ []) (s.given j / 3) j (λ x to. count_push (is_of p (s.given j / 3) x) s.mail l ∙ no_other x to)) refl)
       where
         plus_none : (n m : ℕ) → m ≡ 0 → n + m ≡ n
         plus_none n m e = omega arith
+
         no_other : (x : X) → p.to x ≡ j → count_by (is_of p (s.given j / 3) x) s.mail + cond (is_of p (s.given j / 3) x l) 1 0 ≡ count_by (is_of p (s.given j / 3) x) s.mail
         no_other x to = plus_none (count_by (is_of p (s.given j / 3) x) s.mail) (cond (is_of p (s.given j / 3) x l) 1 0) (none_if (is_of p (s.given j / 3) x l) (false_from_ne_true (is_of p (s.given j / 3) x l) (λ e. ne (sym to ∙ ap p.to (of_is p plan (s.given j / 3) x l e).of))))
+
     ready : (j : ℕ) (b : Bool) → (j == p.to l.of) ≡ b → cond b (may_by p s (with_letter p c l) (p.to l.of)) (c.ready j) ≡ may_take p (delivered p m s k (Some l)) j
     ready j true e = ap (may_by p s (with_letter p c l)) (sym (eqb-true j (p.to l.of) e)) ∙ tested j
     ready j false e = h.ready j ∙ sym (other j (eqb-false j (p.to l.of) e))
@@ -317,7 +334,7 @@ step_counts {X} {L} {P} p m plan s c (deliver seat k) o legal h =
     let f = found (λ l. l.number == k) s.wire legal in
     let next = step_orderly p m plan s (deliver seat k) o legal in
     subst (λ (v : Option (Letter X P)). CountsAreOf p (delivered p m s k v) (counts_delivered p s c v)) (sym f.1)
-        (delivered_counts p m plan s c k f.0 (subst (λ (v : Option (Letter X P)). Orderly p (delivered p m s k v)) f.1 next) h)
+    (delivered_counts p m plan s c k f.0 (subst (λ (v : Option (Letter X P)). Orderly p (delivered p m s k v)) f.1 next) h)
 
 after_counts : {X L P : Type 0} (p : Plan X) (m : Machine X L P) → IsPlan p → (s : State X L P) (c : Counts) (events : List Event) → Orderly p s → are_legal p m s events ≡ true → CountsAreOf p s c → CountsAreOf p (after p m s events) (counts_along p m s c events)
 after_counts p m plan s c [] o legal h = h
@@ -335,6 +352,7 @@ first_are {X} {L} {P} p m plan = record {
     none : (xs : List ℕ) → count_by (λ _. false) xs ≡ 0
     none [] = refl
     none (x ∷ xs) = count_cons_no (λ _. false) x xs refl ∙ none xs
+
     by : (b : Bool) → cond b p.lists 0 ≡ count_by (λ _. b) (range_with_len 0 p.lists)
     by true = sym (length_count (range_with_len 0 p.lists) ∙ length_range 0 p.lists)
     by false = sym (none (range_with_len 0 p.lists))

@@ -1,5 +1,5 @@
 -- A cycle as a machine over events: what its states are, which events are legal in them, and what they change.
-use Rattle.std.specs.Prelude.{◌≡◌, ◌==◌, ℕ, zero, suc, ◌+◌, ◌/◌, Bool, true, false, cond, not, ◌&&◌, ◌||◌, nat_lt, nat_le, Option, Some, None, is_some, List, [], ◌∷◌, ◌++◌, length, filter, find}
+use Rattle.std.specs.Prelude.{◌≡◌, ◌==◌, ℕ, suc, ◌+◌, ◌/◌, Bool, true, false, cond, not, ◌&&◌, ◌||◌, nat_lt, nat_le, Option, Some, None, is_some, List, [], ◌∷◌, ◌++◌, length, filter, find}
 use Rattle.std.specs.List.{list_all, list_any, range_with_len}
 use Rattle.cycle_rounds.specs.Plan.{Plan, all_tasks, is_reading, is_sending, round_tasks}
 

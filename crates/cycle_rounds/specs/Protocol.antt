@@ -1,8 +1,8 @@
 -- What every legal list of events keeps, whatever the lists hold.
-use Rattle.std.specs.Prelude.{◌≡◌, ◌==◌, ℕ, ◌+◌, ◌*◌, ◌<◌, ◌≤◌, Bool, true, false, cond, ◌&&◌, ◌⊎◌, nat_lt, Option, Some, None, is_some, List, [], ◌∷◌, ◌++◌, length, count_by, sum_by}
+use Rattle.std.specs.Prelude.{◌≡◌, ◌==◌, ℕ, ◌+◌, ◌*◌, ◌<◌, ◌≤◌, Bool, true, false, cond, ◌&&◌, ◌⊎◌, nat_lt, is_some, List, length, count_by, sum_by}
 use Rattle.std.specs.List.{list_any, range_with_len}
 use Rattle.cycle_rounds.specs.Plan.{IsPlan, Plan, all_tasks, is_due, round_tasks}
-use Rattle.cycle_rounds.specs.Events.{Event, IsHistory, Letter, Machine, State, is_complete, is_legal, is_of, may_take, replay, step}
+use Rattle.cycle_rounds.specs.Events.{Event, IsHistory, Machine, State, is_complete, is_legal, is_of, may_take, replay, step}
 use Rattle.cycle_rounds.specs.Events.Event.{take, give, deliver}
 
 -- how many letters of a round about x are on the wire or delivered and not read

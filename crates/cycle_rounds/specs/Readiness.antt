@@ -1,5 +1,5 @@
 -- Which lists can go on, told by counts that single events keep up, without looking through letters.
-use Rattle.std.specs.Prelude.{◌≡◌, ◌==◌, ℕ, ◌+◌, ◌/◌, Bool, true, false, cond, not, ◌&&◌, ◌||◌, nat_lt, nat_le, Option, Some, None, is_some, List, [], ◌∷◌, count_by, find}
+use Rattle.std.specs.Prelude.{◌≡◌, ◌==◌, ℕ, ◌+◌, ◌/◌, Bool, false, cond, not, ◌&&◌, ◌||◌, nat_lt, nat_le, Option, Some, None, is_some, List, [], ◌∷◌, count_by, find}
 use Rattle.std.specs.List.{range_with_len}
 use Rattle.cycle_rounds.specs.Plan.{IsPlan, Plan, all_tasks, is_reading, round_tasks}
 use Rattle.cycle_rounds.specs.Events.{Event, IsHistory, Letter, Machine, State, begin, is_for, may_take, put, replay, step}
