@@ -265,25 +265,25 @@ unfolding leaves_of roots
 rising_leaves s inner shape = increasing _ _ (cube_leaves s inner (roots_in 16 s 0 0 0)) (rising_roots s inner shape 16 0 0 0 0 refl)
 
 -- an item of a list whose list passes
-any_append_left : (p : Loc → Bool) (xs ys : List Loc) → list_any p xs ≡ true → list_any p (xs ++ ys) ≡ true
+pub any_append_left : (p : Loc → Bool) (xs ys : List Loc) → list_any p xs ≡ true → list_any p (xs ++ ys) ≡ true
 any_append_left p [] ys h = absurd (false≢true h)
 any_append_left p (x ∷ xs) ys h = elim (or_cases (p x) (list_any p xs) h) [
   | inl here ↦ or_left (p x) (list_any p (xs ++ ys)) here
   | inr there ↦ or_right (p x) (list_any p (xs ++ ys)) (any_append_left p xs ys there)
 ]
 
-any_append_right : (p : Loc → Bool) (xs ys : List Loc) → list_any p ys ≡ true → list_any p (xs ++ ys) ≡ true
+pub any_append_right : (p : Loc → Bool) (xs ys : List Loc) → list_any p ys ≡ true → list_any p (xs ++ ys) ≡ true
 any_append_right p [] ys h = h
 any_append_right p (x ∷ xs) ys h = or_right (p x) (list_any p (xs ++ ys)) (any_append_right p xs ys h)
 
-any_flat : (p : Loc → Bool) (f : ℕ → List Loc) (a n j : ℕ) → a ≤ j → j < a + n → list_any p (f j) ≡ true → list_any p (flat_map f (range_with_len a n)) ≡ true
+pub any_flat : (p : Loc → Bool) (f : ℕ → List Loc) (a n j : ℕ) → a ≤ j → j < a + n → list_any p (f j) ≡ true → list_any p (flat_map f (range_with_len a n)) ≡ true
 any_flat p f a zero j low high h = absurd (omega arith)
 any_flat p f a (suc n) j low high h = elim (cases_eq a j) [
   | inl e ↦ any_append_left p (f a) (flat_map f (range_with_len (a + 1) n)) (ap (λ v. list_any p (f v)) e ∙ h)
   | inr d ↦ any_append_right p (f a) (flat_map f (range_with_len (a + 1) n)) (any_flat p f (a + 1) n j (omega arith) (omega arith) h)
 ]
 
-any_listed : (l r : Loc) (f : Loc → List Loc) (xs : List Loc) → list_any (same_loc r) xs ≡ true → list_any (same_loc l) (f r) ≡ true → list_any (same_loc l) (flat_map f xs) ≡ true
+pub any_listed : (l r : Loc) (f : Loc → List Loc) (xs : List Loc) → list_any (same_loc r) xs ≡ true → list_any (same_loc l) (f r) ≡ true → list_any (same_loc l) (flat_map f xs) ≡ true
 any_listed l r f [] h k = absurd (false≢true h)
 any_listed l r f (x ∷ xs) h k = elim (or_cases (same_loc r x) (list_any (same_loc r) xs) h) [
   | inl same ↦ any_append_left (same_loc l) (f x) (flat_map f xs) (ap (λ (v : Loc). list_any (same_loc l) (f v)) (sym (same_loc-is r x same)) ∙ k)
@@ -334,7 +334,7 @@ listed_here s inner shape tree l leaf (suc k) (suc d) x few top level =
     ∙ any_flat (same_loc l) (λ i. leaves_below k s.dims inner (child s.dims x i)) 0 (parts s.dims) j (omega arith) (omega arith) below
 
 -- each root is listed
-root_listed : (s : Shape) (r : Loc) → IsIn s r → r.level ≡ 0 → (k x y z : ℕ) → r.l1 / 2 ^ k ≡ x → r.l2 / 2 ^ k ≡ y → r.l3 / 2 ^ k ≡ z → list_any (same_loc r) (roots_in k s x y z) ≡ true
+pub root_listed : (s : Shape) (r : Loc) → IsIn s r → r.level ≡ 0 → (k x y z : ℕ) → r.l1 / 2 ^ k ≡ x → r.l2 / 2 ^ k ≡ y → r.l3 / 2 ^ k ≡ z → list_any (same_loc r) (roots_in k s x y z) ≡ true
 root_listed s r inside root zero x y z e1 e2 e3 =
     let a : r.l1 / 1 ≡ r.l1 = omega arith in
     let b : r.l2 / 1 ≡ r.l2 = omega arith in

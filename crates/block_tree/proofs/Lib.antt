@@ -7,3 +7,6 @@ pub mod Changes
 pub mod LeafList
 pub mod KeyOrder
 pub mod Next
+pub mod Places
+pub mod Lists
+pub mod Worklist

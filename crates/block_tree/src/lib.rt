@@ -2,8 +2,11 @@
 //! wanted, and what lies behind a side of a leaf.
 #![tactic(auto)]
 
+mod balance;
 mod boxes;
+mod grow;
 mod laws;
+mod nodes;
 mod tags;
 
 pub use boxes::StaticBox;
