@@ -1,5 +1,5 @@
 -- A shelf with nothing on it, and a shelf of which one place changed.
-use Rattle.std.proofs.Common.{◌≡◌, ◌∙◌, sym, ap, subst, refl, inl, inr, ℕ, zero, suc, ◌+◌, ◌-◌, ◌/◌, ◌%◌, ◌<◌, ◌≤◌, ◌≢◌, Option, None, Some, List, [], ◌∷◌, length, map, replicate, slice_index_or, slice_set, All, arith}
+use Rattle.std.proofs.Common.{◌≡◌, ◌∙◌, sym, ap, subst, refl, inl, inr, ℕ, zero, suc, ◌+◌, ◌-◌, ◌/◌, ◌%◌, ◌<◌, ◌≤◌, Option, None, Some, List, ◌∷◌, length, map, replicate, slice_index_or, slice_set, arith}
 use Rattle.std.specs.List.{range_with_len}
 use Rattle.std.proofs.lemmas.Bool.{cases_lt}
 use Rattle.std.proofs.lemmas.List.{get_or-replicate, get_or_past, length-replicate, length-map}
@@ -9,7 +9,7 @@ use Rattle.alloc_epochs.specs.Pages.{Changes, key_in, keys_in, pages_for}
 use Rattle.alloc_epochs.specs.Rows.{AreRows, empty_rows}
 use Rattle.alloc_epochs.specs.Shelf.{Shelved, IsOn, key_at, with_key, no_keys}
 use Rattle.alloc_epochs.proofs.Entries.{no_key}
-use Rattle.alloc_epochs.proofs.Keys.{shelved, no_page, no_row, no_keys_here, key_before, key_beyond, key_is, changed_shelf}
+use Rattle.alloc_epochs.proofs.Keys.{shelved, no_page, no_row, key_before, key_beyond, key_is, changed_shelf}
 
 pub key_of_nothing : (pages field : ℕ) → key_in (replicate pages no_page) field ≡ None
 key_of_nothing pages field = elim (cases_lt (field / 32) pages) [

@@ -1,5 +1,5 @@
 -- Pages with and without keys.
-use Rattle.std.proofs.Common.{◌≡◌, ◌≢◌, ◌∙◌, sym, ap, refl, inl, inr, ℕ, ◌+◌, ◌<◌, ◌≤◌, Bool, true, false, nat_eq, is_none, Option, None, Some, List, [], ◌∷◌, length, replicate, slice_index_or, slice_set, get_or, arith}
+use Rattle.std.proofs.Common.{◌≡◌, ◌≢◌, ◌∙◌, sym, ap, refl, inl, inr, ℕ, true, false, nat_eq, is_none, Option, None, Some, List, [], ◌∷◌, length, replicate, slice_index_or, slice_set, arith}
 use Rattle.std.specs.List.{list_all}
 use Rattle.std.proofs.lemmas.Bool.{cases_lt, false≢true}
 use Rattle.std.proofs.lemmas.Bool.Decides.{nat_tests}

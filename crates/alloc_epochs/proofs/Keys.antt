@@ -1,13 +1,12 @@
 -- The keys of a block in its pages.
-use Rattle.std.proofs.Common.{◌≡◌, ◌≢◌, ◌∙◌, sym, ap, subst, refl, inl, inr, ℕ, ◌+◌, ◌-◌, ◌/◌, ◌%◌, ◌<◌, ◌≤◌, ◌⊎◌, Bool, true, false, cond, nat_lt, Option, None, Some, List, [], ◌∷◌, length, map, replicate, slice_index_or, slice_set, get_or, arith}
-use Rattle.std.specs.List.{range_with_len}
+use Rattle.std.proofs.Common.{◌≡◌, ◌≢◌, ◌∙◌, sym, ap, inl, inr, ℕ, ◌+◌, ◌-◌, ◌/◌, ◌%◌, ◌<◌, ◌≤◌, nat_lt, Option, None, List, [], length, map, slice_index_or, slice_set, arith}
 use Rattle.std.proofs.lemmas.Bool.{cases_eq, cases_lt, lt-ltb, le-ltb, cond-true, cond-false}
-use Rattle.std.proofs.lemmas.List.{get_or-replicate, get_or_past, length-replicate, length-map, get_or-map, get_or-set_same, get_or-set_other, length-set, map-set}
+use Rattle.std.proofs.lemmas.List.{get_or_past, length-map, get_or-map, get_or-set_same, get_or-set_other, length-set, map-set}
 use Rattle.std.proofs.lemmas.List.FromFn.{length-map-range_with_len, get_or-map-range_with_len, fill_by_all}
 use Rattle.sparse_pool.specs.declared.place.Place.{Place}
 use Rattle.alloc_epochs.specs.Pages.{Changes, key_in, keys_in}
 use Rattle.alloc_epochs.specs.Shelf.{Shelved, key_at, keys_of, with_key}
-use Rattle.alloc_epochs.proofs.Entries.{nothing_at, no_key}
+use Rattle.alloc_epochs.proofs.Entries.{no_key}
 
 abbrev pub no_page : List (Option ℕ)
 no_page = []

@@ -1,13 +1,13 @@
 -- Listing the places of a block, and of all blocks.
-use Rattle.std.proofs.Common.{◌≡◌, ◌∙◌, sym, ap, subst, refl, ℕ, zero, suc, ◌+◌, ◌-◌, ◌/◌, ◌%◌, ◌<◌, ◌≤◌, ◌≢◌, Bool, false, ◌&&◌, cond, nat_lt, is_some, Option, None, Some, List, [], ◌∷◌, ◌++◌, length, map, slice_index_or, arith}
+use Rattle.std.proofs.Common.{◌≡◌, ◌∙◌, sym, ap, subst, refl, ℕ, zero, suc, ◌+◌, ◌-◌, ◌/◌, ◌%◌, ◌<◌, ◌≤◌, Bool, false, ◌&&◌, cond, nat_lt, is_some, Option, None, List, [], ◌∷◌, ◌++◌, length, map, slice_index_or, arith}
 use Rattle.std.specs.Prelude.{filter, flat_map}
 use Rattle.std.specs.List.{range_with_len}
 use Rattle.std.proofs.lemmas.Bool.{ltb-false}
-use Rattle.std.proofs.lemmas.List.{append-nil, append_assoc, map-id, nil_from_length}
+use Rattle.std.proofs.lemmas.List.{append-nil, map-id, nil_from_length}
 use Rattle.std.proofs.lemmas.Grind.{flat_map-append}
 use Rattle.std.proofs.lemmas.List.FromFn.{map-range_with_len_more, filter_of_map_range_with_len_more}
 use Rattle.sparse_pool.specs.declared.place.Place.{Place}
-use Rattle.alloc_epochs.specs.Pages.{key_in, keys_in}
+use Rattle.alloc_epochs.specs.Pages.{key_in}
 use Rattle.alloc_epochs.specs.Rows.{row_places}
 use Rattle.alloc_epochs.specs.Shelf.{Shelved, key_at, listed_on, place_on}
 use Rattle.alloc_epochs.proofs.Entries.{no_key}

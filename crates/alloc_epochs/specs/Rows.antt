@@ -1,5 +1,5 @@
 -- The rows of a shelf. This serves the private contracts of the crate: a shelf itself is `Shelf`.
-use Rattle.std.specs.Prelude.{◌≡◌, ℕ, ◌+◌, ◌<◌, ◌≤◌, Bool, ◌&&◌, is_some, Option, List, [], length, map, filter, replicate, slice_index_or, All}
+use Rattle.std.specs.Prelude.{◌≡◌, ℕ, ◌+◌, ◌≤◌, Bool, ◌&&◌, is_some, Option, List, [], length, map, filter, replicate, All}
 use Rattle.std.specs.List.{range_with_len}
 use Rattle.sparse_pool.specs.declared.place.Place.{Place}
 use Rattle.alloc_epochs.specs.Pages.{key_in, pages_for}

@@ -1,5 +1,5 @@
 -- What contracts see of a shelf.
-use Rattle.std.specs.Prelude.{◌≡◌, ℕ, ◌+◌, ◌-◌, ◌<◌, ◌≤◌, Bool, true, false, ◌&&◌, cond, nat_lt, is_some, Option, None, List, [], length, map, filter, flat_map, replicate, slice_index_or, slice_set}
+use Rattle.std.specs.Prelude.{ℕ, ◌+◌, ◌-◌, ◌<◌, ◌≤◌, Bool, true, false, ◌&&◌, cond, nat_lt, is_some, Option, None, List, [], length, map, filter, flat_map, replicate, slice_index_or, slice_set}
 use Rattle.std.specs.List.{range_with_len}
 use Rattle.sparse_pool.specs.declared.place.Place.{Place}
 use Rattle.sparse_pool.specs.declared.place.PackKind.{PackKind}

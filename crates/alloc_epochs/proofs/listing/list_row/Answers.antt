@@ -1,4 +1,4 @@
-use Rattle.std.proofs.Common.{◌≡◌, ◌∙◌, sym, ap, ◌++◌, ℕ, List, arith}
+use Rattle.std.proofs.Common.{◌∙◌, sym, ap, ◌++◌, List, arith}
 use Rattle.std.proofs.lemmas.List.{append_assoc}
 use Rattle.sparse_pool.specs.declared.place.Place.{Place}
 use Rattle.alloc_epochs.specs.Rows.{row_places}

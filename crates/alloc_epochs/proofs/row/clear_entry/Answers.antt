@@ -1,4 +1,4 @@
-use Rattle.std.proofs.Common.{◌≡◌, ◌∙◌, sym, ap, ℕ, Option, None, List, [], slice_index_or}
+use Rattle.std.proofs.Common.{◌≡◌, ◌∙◌, sym, ap, ℕ, Option, List, slice_index_or}
 use Rattle.alloc_epochs.specs.Pages.{blank}
 use Rattle.alloc_epochs.proofs.Entries.{cleared_blank, cleared_same, no_key}
 use Rattle.alloc_epochs.proofs.row.clear_entry.Goals as goal

@@ -1,4 +1,4 @@
-use Rattle.std.proofs.Common.{◌≡◌, ◌∙◌, sym, ap, ℕ, Option, None, List, [], slice_index_or}
+use Rattle.std.proofs.Common.{◌≡◌, ◌∙◌, sym, ap, ℕ, Option, List, [], slice_index_or}
 use Rattle.alloc_epochs.proofs.Entries.{nothing_at, empty_page, no_key}
 use Rattle.alloc_epochs.proofs.row.fill_in.Goals as goal
 

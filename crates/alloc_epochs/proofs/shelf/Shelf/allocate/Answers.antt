@@ -1,4 +1,4 @@
-use Rattle.std.proofs.Common.{◌≡◌, sym, subst, ◌-◌, Some, Option, List, ℕ}
+use Rattle.std.proofs.Common.{sym, subst, ◌-◌, Some, Option, List, ℕ}
 use Rattle.std.proofs.lemmas.List.{get_or_read}
 use Rattle.alloc_epochs.specs.Pages.{Changes}
 use Rattle.alloc_epochs.specs.Shelf.{Shelved, IsOn}

@@ -1,6 +1,5 @@
-use Rattle.std.proofs.Common.{◌≡◌, ◌∙◌, sym, ap, subst, ℕ, ◌-◌, ◌<◌, ◌≤◌, Option, None, List, [], inl, inr, arith}
-use Rattle.std.proofs.lemmas.Bool.{cases_lt}
-use Rattle.std.proofs.lemmas.List.{get_or_read, get_or_past}
+use Rattle.std.proofs.Common.{◌≡◌, ◌∙◌, sym, ap, subst, ℕ, ◌-◌, Option, None, List, arith}
+use Rattle.std.proofs.lemmas.List.{get_or_read}
 use Rattle.alloc_epochs.specs.Pages.{key_in}
 use Rattle.alloc_epochs.specs.Shelf.{Shelved, key_at}
 use Rattle.alloc_epochs.proofs.Keys.{key_before, key_beyond, key_is, no_row}

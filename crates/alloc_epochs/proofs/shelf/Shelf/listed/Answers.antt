@@ -1,6 +1,5 @@
-use Rattle.std.proofs.Common.{◌≡◌, ◌∙◌, ap, ◌++◌, ◌+◌, length, ℕ, List, Option, arith}
+use Rattle.std.proofs.Common.{◌∙◌, ap, ◌++◌, ◌+◌, length, ℕ, List, Option, arith}
 use Rattle.std.proofs.lemmas.List.{get_or_read}
-use Rattle.sparse_pool.specs.declared.place.Place.{Place}
 use Rattle.alloc_epochs.specs.Rows.{row_places}
 use Rattle.alloc_epochs.specs.Shelf.{takes}
 use Rattle.alloc_epochs.proofs.Keys.{no_row}

@@ -1,6 +1,5 @@
-use Rattle.std.proofs.Common.{◌≡◌, ◌∙◌, ap, map, List, Option, ℕ}
+use Rattle.std.proofs.Common.{◌∙◌, ap, map, List, Option, ℕ}
 use Rattle.alloc_epochs.specs.Pages.{keys_in}
-use Rattle.alloc_epochs.specs.Shelf.{Shelved}
 use Rattle.alloc_epochs.proofs.Keys.{shelved}
 use Rattle.alloc_epochs.proofs.Changed.{empty_keys}
 use Rattle.alloc_epochs.proofs.shelf.Shelf.new.Goals as goal
