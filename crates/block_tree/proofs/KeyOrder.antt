@@ -362,15 +362,15 @@ root_listed s r inside root (suc k) x y z e1 e2 e3 =
     lower : (x n q : ℕ) → x / n ≡ q → q * n ≤ x
     lower x n q e = subst (λ v. v * n ≤ x) e (div-mul-le_self x n)
 
-leaf_listed : (s : Shape) (inner : Loc → Bool) → IsShape s → IsTree s inner → (l : Loc) → IsLeaf s inner l → is_listed (leaves_of s inner) l ≡ true
-unfolding leaves_of roots
-leaf_listed s inner shape tree l leaf =
+-- each location lies below a listed root
+pub root_of : (s : Shape) → IsShape s → (l : Loc) → IsIn s l → is_listed (roots s) (ancestor s.dims l.level l) ≡ true
+unfolding roots
+root_of s shape l there =
     let r : Loc = ancestor s.dims l.level l in
     let up = ancestor_level s.dims l.level l (omega arith) in
     let root : r.level ≡ 0 = omega arith in
-    let inside = ancestor_inside s l.level l leaf.inside (omega arith) in
-    let listed = root_listed s r inside root 16 0 0 0 (small_root s shape 0 r.l1 (lit< tt) (at_root s r root 0 inside.within1)) (small_root s shape 1 r.l2 (lit< tt) (at_root s r root 1 inside.within2)) (small_root s shape 2 r.l3 (lit< tt) (at_root s r root 2 inside.within3)) in
-    any_listed l r (leaves_below 10 s.dims inner) (roots_in 16 s 0 0 0) listed (listed_here s inner shape tree l leaf 10 l.level r (omega arith) refl (omega arith))
+    let inside = ancestor_inside s l.level l there (omega arith) in
+    root_listed s r inside root 16 0 0 0 (small_root s shape 0 r.l1 (lit< tt) (at_root s r root 0 inside.within1)) (small_root s shape 1 r.l2 (lit< tt) (at_root s r root 1 inside.within2)) (small_root s shape 2 r.l3 (lit< tt) (at_root s r root 2 inside.within3))
   where
     at_root : (s : Shape) (r : Loc) → r.level ≡ 0 → (axis : ℕ) {x : ℕ} → x < blocks_along s axis r.level → x < root_along s axis
     at_root s r root axis {x} h = let e : factor s.dims axis ^ r.level ≡ 1 = ap (λ v. factor s.dims axis ^ v) root ∙ pow-zero (factor s.dims axis) in
@@ -382,6 +382,13 @@ leaf_listed s inner shape tree l leaf =
         few : (b : Bool) (r : ℕ) → r ≤ cond b 65536 1 → x < r → x / 65536 ≡ 0
         few true r h less = omega arith
         few false r h less = omega arith
+
+leaf_listed : (s : Shape) (inner : Loc → Bool) → IsShape s → IsTree s inner → (l : Loc) → IsLeaf s inner l → is_listed (leaves_of s inner) l ≡ true
+unfolding leaves_of
+leaf_listed s inner shape tree l leaf =
+    let r : Loc = ancestor s.dims l.level l in
+    let up = ancestor_level s.dims l.level l (omega arith) in
+    any_listed l r (leaves_below 10 s.dims inner) (roots s) (root_of s shape l leaf.inside) (listed_here s inner shape tree l leaf 10 l.level r (omega arith) refl (omega arith))
 
 pub leaves_law : LeavesLaw
 leaves_law s inner shape tree = record {

@@ -10,3 +10,6 @@ pub mod Next
 pub mod Places
 pub mod Lists
 pub mod Worklist
+pub mod Growing
+pub mod Counting
+pub mod InnerList
