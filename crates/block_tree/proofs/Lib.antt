@@ -7,3 +7,4 @@ pub mod Changes
 pub mod LeafList
 pub mod KeyOrder
 pub mod Next
+pub mod InnerList

@@ -7,5 +7,5 @@ mod laws;
 mod tags;
 
 pub use boxes::StaticBox;
-pub use laws::{behind_laws, change_law, least_tree_law, leaves_law, next_tree_laws, worked_trees};
+pub use laws::{behind_laws, change_law, inner_nodes_law, least_tree_law, leaves_law, next_tree_laws, worked_trees};
 pub use tags::Tag;
