@@ -9,7 +9,7 @@ use Rattle.morton_order.proofs.Any.{or_left}
 use Rattle.morton_order.proofs.Family.{child-parent, child_number_below}
 use Rattle.morton_order.proofs.Touching.{same_loc-self}
 use Rattle.block_tree.specs.Tree.{IsTree, ancestor, is_listed}
-use Rattle.block_tree.specs.Leaves.{inner_below, inner_of, pieces, roots, roots_in}
+use Rattle.block_tree.specs.Leaves.{InnersAreListed, inner_below, inner_of, pieces, roots, roots_in}
 use Rattle.block_tree.proofs.Ancestors.{ancestor_inner, ancestor_inside, ancestor_level, ancestor_more}
 use Rattle.block_tree.proofs.KeyOrder.{any_append_left, any_append_right, any_flat, any_listed, root_of}
 use Rattle.block_tree.proofs.LeafList.{Each, each_append, each_flat, each_listed, each_number}
@@ -72,3 +72,6 @@ inner_test s inner shape tree = λ i l. one l i
         by true e false f = sym f ∙ inner_listed s inner shape tree l e
         by false e true f = sym (listed_inner s inner l f) ∙ e
         by false e false f = refl
+
+pub inners_are_listed : InnersAreListed
+inners_are_listed s inner shape tree l = ap (λ (p : Loc → Bool). p l) (inner_test s inner shape tree)

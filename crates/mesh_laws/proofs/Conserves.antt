@@ -8,7 +8,7 @@ use Rattle.mesh_rules.specs.Sums.{sum_over, sum_to}
 use Rattle.mesh_rules.specs.Mesh.{IsMesh, Mesh, block_of, is_inner, stored, sum_cells, total_of}
 use Rattle.mesh_rules.specs.Fields.{field_count}
 use Rattle.mesh_rules.specs.Faces.{Pair, cell_across, face_pair, face_pair_by, own_pair, sum_pairs}
-use Rattle.mesh_rules.specs.Stage.{gain, inflow_of, loss, outflow_of, stage, staged, when_outside}
+use Rattle.mesh_rules.specs.Stage.{gain, inflow_of, loss, outflow_of, staged, when_outside}
 use Rattle.mesh_laws.specs.PayLaws.{HasFittingRates, IsNoFiner}
 use Rattle.mesh_laws.specs.StageLaws.{StageConserves}
 use Rattle.mesh_laws.proofs.Balances.{fine_sum, interior, interior_balances}

@@ -1,10 +1,9 @@
 -- What is dropped is exactly what was made zero.
-use Rattle.std.proofs.Common.{◌≡◌, ℕ, zero, suc, ◌+◌, ◌<◌, Bool, true, false, cond, List, refl, arith, ap, sym, ◌∙◌}
-use Rattle.std.specs.List.{slice_index_or}
+use Rattle.std.proofs.Common.{◌≡◌, ℕ, ◌+◌, Bool, true, false, cond, arith, ap, sym, ◌∙◌}
 use Rattle.morton_order.specs.declared.space.Loc.{Loc}
 use Rattle.problem_set.specs.Settings.{Settings}
-use Rattle.mesh_rules.specs.Sums.{sum_over, sum_to}
-use Rattle.mesh_rules.specs.Mesh.{IsMesh, Mesh, block_of, block_size, cell_at, leaf_total, stored, sum_on, total_of}
+use Rattle.mesh_rules.specs.Sums.{sum_to}
+use Rattle.mesh_rules.specs.Mesh.{IsMesh, Mesh, block_of, block_size, cell_at, leaf_total, stored, sum_on}
 use Rattle.mesh_rules.specs.Fields.{field_count}
 use Rattle.mesh_rules.specs.Mask.{Mask, cut, dropped_of, leaf_dropped, stays}
 use Rattle.mesh_laws.specs.DropLaws.{CutLaw, DropsAreWhatWasCut}

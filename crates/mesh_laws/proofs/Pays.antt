@@ -1,6 +1,5 @@
 -- A cell pays at most what it has, and nothing passes a face from nothing.
-use Rattle.std.proofs.Common.{◌≡◌, ◌==◌, inl, inr, ℕ, zero, suc, ◌+◌, ◌-◌, ◌*◌, ◌/◌, ◌<◌, ◌≤◌, Bool, true, false, cond, min, not, Option, Some, None, List, [], ◌∷◌, refl, arith, ap, subst, sym, ◌∙◌, lit<}
-use Rattle.std.specs.List.{range_with_len}
+use Rattle.std.proofs.Common.{◌≡◌, ◌==◌, inl, inr, ℕ, zero, suc, ◌+◌, ◌*◌, ◌/◌, ◌<◌, ◌≤◌, Bool, true, false, cond, not, Option, Some, None, List, [], ◌∷◌, refl, arith, ap, subst, sym, ◌∙◌}
 use Rattle.std.proofs.Math.Nat.{mul-le-mul_left, mul-le-mul_right}
 use Rattle.std.proofs.lemmas.Bool.{cases_eq, eqb-true}
 use Rattle.morton_order.specs.declared.space.Loc.{Loc}
@@ -26,11 +25,10 @@ use Rattle.mesh_rules.specs.Mesh.{IsMesh, Mesh, OnLeaf, block_of, cell_lattice, 
 use Rattle.mesh_rules.specs.Look.{look}
 use Rattle.mesh_rules.specs.Fields.{field_at, kind_at, moves_at}
 use Rattle.mesh_rules.specs.Faces.{Pair, cell_across, face_pair, face_pair_by, limited, own_pair, pair_outside, reconstructed, seen_in, seen_next, seen_second, sum_pairs}
-use Rattle.mesh_rules.specs.Stage.{loss}
-use Rattle.mesh_laws.specs.PayLaws.{HasFittingRates, IsNoFiner, NothingFromNothing, PaysAtMost, entering, leaving}
+use Rattle.mesh_laws.specs.PayLaws.{IsNoFiner, NothingFromNothing, PaysAtMost, entering, leaving}
 use Rattle.mesh_laws.proofs.Flips.{flip, flipped_sum, sees_back}
 use Rattle.mesh_laws.proofs.Looks.{children_add_up, look_law, no_node, some_parts}
-use Rattle.mesh_laws.proofs.Portions.{all_shares, portion_by_more, portion_of_more, portion_within, portions_by, portions_over, quotient_grows, quotients, rate_grows, sum_filter}
+use Rattle.mesh_laws.proofs.Portions.{all_shares, portion_by_more, portion_of_more, portion_within, portions_by, portions_over, quotient_grows, rate_grows, sum_filter}
 
 -- what a total counts for at most at a face: by the second order half as much again
 abbrev pub most : ℕ → ℕ → ℕ

@@ -1,14 +1,14 @@
 -- A reaction keeps the sum over the fields, and balances field by field.
-use Rattle.std.proofs.Common.{◌≡◌, ℕ, zero, suc, ◌+◌, ◌<◌, ◌≤◌, List, [], ◌∷◌, length, refl, arith, ap, sym, ◌∙◌, sum}
+use Rattle.std.proofs.Common.{◌≡◌, ℕ, zero, suc, ◌+◌, ◌<◌, List, [], ◌∷◌, length, refl, arith, ap, sym, ◌∙◌, sum}
 use Rattle.std.specs.Prelude.{slice_index, map}
 use Rattle.std.specs.List.{range_with_len}
 use Rattle.std.proofs.lemmas.List.Sums.{sum_by-cons}
 use Rattle.std.proofs.lemmas.List.FromFn.{get_or-map-range_with_len}
 use Rattle.morton_order.specs.declared.space.Loc.{Loc}
 use Rattle.package_fields.specs.Kernel.{KernelLaws, Reacted}
-use Rattle.mesh_rules.specs.Sums.{sum_over, sum_to, table}
-use Rattle.mesh_rules.specs.Mesh.{IsMesh, Mesh, stored, sum_cells, total_of}
-use Rattle.mesh_rules.specs.Reaction.{cell_totals, made_of, react_mesh, reacted_cell, used_of}
+use Rattle.mesh_rules.specs.Sums.{sum_to, table}
+use Rattle.mesh_rules.specs.Mesh.{Mesh, stored, sum_cells, total_of}
+use Rattle.mesh_rules.specs.Reaction.{cell_totals, react_mesh, reacted_cell, used_of}
 use Rattle.mesh_laws.specs.ReactionLaws.{ReactionBalances, ReactionKeepsSum}
 use Rattle.mesh_laws.proofs.Cells.{cells_axes, cells_plus, cells_same}
 use Rattle.mesh_laws.proofs.Fillings.{filled_sum}

@@ -1,5 +1,5 @@
 -- A sum over the cells of any tree, of what adds up over children, is that over the root cells; so a remap keeps each field's total.
-use Rattle.std.proofs.Common.{◌≡◌, inl, inr, ℕ, zero, suc, ◌+◌, ◌<◌, ◌≤◌, Bool, true, false, cond, not, ◌&&◌, ◌||◌, List, [], refl, arith, ap, sym, ◌∙◌, add-one}
+use Rattle.std.proofs.Common.{◌≡◌, inl, inr, ℕ, zero, suc, ◌+◌, ◌≤◌, Bool, true, false, cond, not, ◌&&◌, ◌||◌, List, [], refl, arith, ap, sym, ◌∙◌, add-one}
 use Rattle.std.proofs.lemmas.Bool.{cases_eq, false≢true, ne_eqb}
 use Rattle.morton_order.specs.declared.space.Loc.{Loc}
 use Rattle.morton_order.specs.declared.space.Shape.{Shape}
@@ -9,13 +9,11 @@ use Rattle.block_tree.specs.Leaves.{inner_of, leaves_of}
 use Rattle.block_tree.proofs.Ancestors.{parent_node, root_node}
 use Rattle.block_tree.proofs.Behinds.{fails}
 use Rattle.mesh_rules.specs.Sums.{sum_over, sum_to}
-use Rattle.mesh_rules.specs.Mesh.{IsMesh, Mesh, block_of, block_size, cell_at, cell_lattice, cells_along, filled, is_inner, stored, sum_cells, sum_on, total_of}
+use Rattle.mesh_rules.specs.Mesh.{IsMesh, Mesh, block_of, cell_lattice, is_inner, stored, sum_on, total_of}
 use Rattle.mesh_rules.specs.Look.{look}
-use Rattle.mesh_rules.specs.Remesh.{remap}
 use Rattle.mesh_laws.specs.RemapLaws.{RemapKeepsTotals}
 use Rattle.mesh_laws.proofs.Cells.{on_leaves}
 use Rattle.mesh_laws.proofs.Fillings.{HasCells, filled_sum}
-use Rattle.mesh_laws.proofs.Grids.{sum_first}
 use Rattle.mesh_laws.proofs.Lattices.{finer_lattice, lattice, lattice_nothing, lattice_plus, lattice_same}
 use Rattle.mesh_laws.proofs.LeafSums.{cells_on_tree, is_leaf}
 use Rattle.mesh_laws.proofs.Looks.{block_child, children_add_up, look_law}

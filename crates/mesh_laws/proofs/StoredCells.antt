@@ -1,5 +1,5 @@
 -- What is stored in any cell of a leaf of a mesh that was filled.
-use Rattle.std.proofs.Common.{◌≡◌, ℕ, suc, ◌+◌, ◌*◌, ◌/◌, ◌%◌, ◌<◌, ◌≤◌, Bool, true, false, ◌||◌, cond, not, List, [], ◌∷◌, length, refl, arith, ap, subst, sym, ◌∙◌, lit<}
+use Rattle.std.proofs.Common.{◌≡◌, ℕ, suc, ◌+◌, ◌*◌, ◌/◌, ◌%◌, ◌<◌, ◌≤◌, Bool, true, false, ◌||◌, cond, not, List, [], ◌∷◌, refl, arith, ap, subst, sym, ◌∙◌, lit<}
 use Rattle.std.specs.List.{list_any, position_or_len, slice_index_or}
 use Rattle.std.proofs.Math.Nat.{div-add-mod', mul-le-mul_left}
 use Rattle.std.proofs.lemmas.Bool.{false≢true}
@@ -8,7 +8,6 @@ use Rattle.morton_order.specs.declared.space.Loc.{Loc}
 use Rattle.morton_order.specs.Space.{same_loc}
 use Rattle.morton_order.proofs.Touching.{same_as, same_loc-is}
 use Rattle.block_tree.specs.Tree.{is_listed}
-use Rattle.block_tree.specs.Leaves.{leaves_of}
 use Rattle.block_tree.proofs.KeyOrder.{leaves_law}
 use Rattle.mesh_rules.specs.Mesh.{IsMesh, Mesh, OnLeaf, block_of, block_size, cell_at, cells_along, filled, is_inner, leaf_number, place_of, stored}
 use Rattle.mesh_laws.proofs.Fillings.{Numbered, stored_filled}
