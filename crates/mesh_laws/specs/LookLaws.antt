@@ -1,5 +1,5 @@
 -- What the look is on a mesh.
-use Rattle.std.specs.Prelude.{◌≡◌, ℕ, zero, suc, ◌+◌, ◌≤◌, false, IsTrue}
+use Rattle.std.specs.Prelude.{◌≡◌, ℕ, zero, suc, false, IsTrue}
 use Rattle.morton_order.specs.declared.space.Loc.{Loc}
 use Rattle.morton_order.specs.Space.{child, child_number, parent, parts}
 use Rattle.block_tree.specs.Tree.{is_node}

@@ -1,11 +1,11 @@
 -- A cycle from any state, with any kernel: its meshes and masks, stage by stage, its flows and drops, its tags, and its end.
-use Rattle.std.specs.Prelude.{ℕ, zero, suc, ◌+◌, cond, nat_le, List, length}
+use Rattle.std.specs.Prelude.{ℕ, zero, suc, ◌+◌, cond, nat_le, List}
 use Rattle.morton_order.specs.declared.space.Loc.{Loc}
 use Rattle.package_fields.specs.declared.flow.Flow.{Flow}
 use Rattle.package_fields.specs.Kernel.{Reacted}
 use Rattle.problem_set.specs.Settings.{Settings}
 use Rattle.block_tree.specs.declared.tags.Tag.{Tag}
-use Rattle.mesh_rules.specs.Sums.{sum_over, sum_to, table}
+use Rattle.mesh_rules.specs.Sums.{sum_over, sum_to}
 use Rattle.mesh_rules.specs.Mesh.{Mesh}
 use Rattle.mesh_rules.specs.Fields.{field_count}
 use Rattle.mesh_rules.specs.Stage.{leaf_inflow, leaf_outflow, stage}

@@ -1,12 +1,12 @@
 -- For the machine: which leaves exchange letters in a stage, what a flux letter holds, and which leaves a list of tasks has.
-use Rattle.std.specs.Prelude.{◌==◌, ℕ, ◌+◌, ◌-◌, ◌*◌, ◌/◌, Bool, true, false, cond, not, Option, Some, None, List, [], ◌∷◌, ◌++◌, length, map}
+use Rattle.std.specs.Prelude.{◌==◌, ℕ, ◌+◌, ◌-◌, ◌/◌, Bool, true, false, cond, not, Option, Some, None, List, [], ◌∷◌, ◌++◌, map}
 use Rattle.std.specs.List.{enumerate_from, flat_map, range_with_len}
 use Rattle.morton_order.specs.declared.space.Loc.{Loc}
 use Rattle.block_tree.specs.Behind.{Behind, behind, outside, same, coarse, fine}
 use Rattle.problem_set.specs.Settings.{Settings}
 use Rattle.mesh_rules.specs.Mesh.{Mesh, is_inner, leaf_number}
 use Rattle.mesh_rules.specs.Faces.{Pair, face_pair}
-use Rattle.mesh_rules.specs.Regions.{Span, at_end, cells_in, coarse_span, leaves_in, own_span, senders}
+use Rattle.mesh_rules.specs.Regions.{Span, at_end, cells_in, coarse_span, leaves_in, own_span}
 
 -- a letter: the numbers of the leaves that send and receive it, and the side of the receiver across which it comes
 pub record Exchange : Type 0 where

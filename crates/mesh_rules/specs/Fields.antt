@@ -1,5 +1,5 @@
 -- What the settings say of a field, by its number, and of the faces of the domain.
-use Rattle.std.specs.Prelude.{ℕ, ◌+◌, ◌*◌, ◌/◌, ◌^◌, pos, Bool, true, false, cond, ◌&&◌, not, nat_lt, None, List, [], length, replicate, slice_index}
+use Rattle.std.specs.Prelude.{ℕ, ◌+◌, ◌*◌, ◌/◌, ◌^◌, pos, Bool, cond, None, [], length, replicate, slice_index}
 use Rattle.std.specs.List.{slice_index_or}
 use Rattle.package_fields.specs.declared.field.Field.{Field}
 use Rattle.package_fields.specs.declared.flag.Flag.TheVariants.{FillGhost, WithFluxes, Sparse}

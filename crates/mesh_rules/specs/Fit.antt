@@ -1,14 +1,12 @@
 -- The states with which a cycle may start.
-use Rattle.std.specs.Prelude.{◌≡◌, ℕ, ◌+◌, ◌*◌, ◌-◌, ◌^◌, ◌<◌, ◌≤◌, true, false, List, [], All, length, IsTrue}
+use Rattle.std.specs.Prelude.{◌≡◌, ℕ, ◌+◌, ◌*◌, ◌-◌, ◌^◌, ◌<◌, ◌≤◌, true, false, [], All, length, IsTrue}
 use Rattle.std.specs.List.{slice_index_or}
 use Rattle.morton_order.specs.declared.space.Loc.{Loc}
-use Rattle.package_fields.specs.declared.field.Field.{Field}
 use Rattle.problem_set.specs.Settings.{Settings}
 use Rattle.problem_set.specs.Rates.{stage_inflow}
 use Rattle.mesh_rules.specs.Sums.{sum_to}
 use Rattle.mesh_rules.specs.Mesh.{IsMesh, Mesh, block_size, is_inner, total_of, totals_on}
 use Rattle.mesh_rules.specs.Fields.{field_count, is_sparse}
-use Rattle.mesh_rules.specs.Remesh.{finest_inner}
 use Rattle.mesh_rules.specs.Mask.{Mask, slot_at}
 use Rattle.mesh_rules.specs.Cycle.{State}
 use Rattle.mesh_rules.specs.Run.{leaf_limit}

@@ -1,6 +1,6 @@
 -- Which fields are kept on which blocks, and what is made zero where they are not.
-use Rattle.std.specs.Prelude.{◌==◌, ℕ, zero, ◌+◌, Bool, true, false, cond, ◌&&◌, ◌||◌, not, nat_lt, nat_le, List, [], length, count_by, map}
-use Rattle.std.specs.List.{enumerate_from, list_all, list_any, range_with_len, slice_index_or}
+use Rattle.std.specs.Prelude.{◌==◌, ℕ, ◌+◌, Bool, true, false, cond, ◌&&◌, ◌||◌, not, nat_lt, nat_le, List, [], count_by, map}
+use Rattle.std.specs.List.{enumerate_from, list_any, range_with_len, slice_index_or}
 use Rattle.morton_order.specs.declared.space.Loc.{Loc}
 use Rattle.morton_order.specs.Space.{child, parent, parts}
 use Rattle.block_tree.specs.Behind.{Behind, behind, outside}

@@ -1,5 +1,5 @@
 -- Where a problem's run starts.
-use Rattle.std.specs.Prelude.{◌==◌, ℕ, Bool, cond, ◌&&◌, nat_le, List, [], length, map, replicate, slice_index}
+use Rattle.std.specs.Prelude.{◌==◌, ℕ, Bool, cond, ◌&&◌, nat_le, [], length, map, replicate, slice_index}
 use Rattle.std.specs.List.{list_all, range_with_len}
 use Rattle.morton_order.specs.declared.space.Loc.{Loc}
 use Rattle.morton_order.specs.Space.{axis_of}

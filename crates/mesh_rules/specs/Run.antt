@@ -10,7 +10,6 @@ use Rattle.problem_set.specs.Settings.{Settings}
 use Rattle.problem_set.specs.declared.words.Mode.{Mode}
 use Rattle.problem_set.specs.declared.words.Mode.TheVariants.{Plain, Fixed, Adaptive}
 use Rattle.mesh_rules.specs.Sums.{table}
-use Rattle.mesh_rules.specs.Mesh.{Mesh}
 use Rattle.mesh_rules.specs.Fields.{field_count}
 use Rattle.mesh_rules.specs.Remesh.{carried_counters, next_tree, remap}
 use Rattle.mesh_rules.specs.Mask.{carried_mask}

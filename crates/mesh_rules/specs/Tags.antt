@@ -1,5 +1,5 @@
 -- What each leaf wishes, and the tags that follow.
-use Rattle.std.specs.Prelude.{ℕ, zero, suc, ◌+◌, ◌-◌, ◌*◌, ◌^◌, Bool, cond, ◌&&◌, nat_lt, nat_le, min, List, [], ◌∷◌, map, slice_index}
+use Rattle.std.specs.Prelude.{ℕ, zero, suc, ◌+◌, ◌-◌, ◌*◌, ◌^◌, cond, ◌&&◌, nat_lt, nat_le, min, List, [], ◌∷◌, map, slice_index}
 use Rattle.std.specs.List.{enumerate_from}
 use Rattle.morton_order.specs.declared.space.Loc.{Loc}
 use Rattle.morton_order.specs.Space.{axis_of, same_loc}

@@ -1,6 +1,5 @@
 -- Worked examples of what is kept where and dropped, of reactions and of trees that change, with their numbers written out.
-use Rattle.std.specs.Prelude.{◌≡◌, ℕ, pos, true, false, List, [], ◌∷◌, ◌++◌, codes}
-use Rattle.morton_order.specs.declared.space.Loc.{Loc}
+use Rattle.std.specs.Prelude.{◌≡◌, ℕ, pos, true, List, [], ◌∷◌, codes}
 use Rattle.problem_set.specs.Settings.{Settings}
 use Rattle.problem_set.specs.declared.words.Mode.TheVariants.{Adaptive}
 use Rattle.problem_set.specs.declared.words.Method.{Method}

@@ -1,6 +1,5 @@
 -- Worked examples of faces and stages, with their numbers written out.
 use Rattle.std.specs.Prelude.{◌≡◌, ℕ, ◌-◌, pos, true, false, List, [], ◌∷◌, ◌++◌, codes, map, replicate, length}
-use Rattle.morton_order.specs.declared.space.Loc.{Loc}
 use Rattle.problem_set.specs.Settings.{Settings}
 use Rattle.problem_set.specs.declared.words.Mode.TheVariants.{Fixed}
 use Rattle.problem_set.specs.declared.words.FaceKind.TheVariants.{Periodic, Outflow, Inflow}
@@ -8,7 +7,7 @@ use Rattle.mesh_rules.specs.Look.{look}
 use Rattle.mesh_rules.specs.Fields.{outside}
 use Rattle.mesh_rules.specs.Faces.{face_pair, limited}
 use Rattle.mesh_rules.specs.Opening.{opening_mesh}
-use Rattle.mesh_rules.specs.WorkedSettings.{at, at_speed, blocks_in, blocks_over, cell_box, closed_faces, field, flow_in, moving, moving_row, refined, roots_of, row, run_of, totals_in, two_blocks}
+use Rattle.mesh_rules.specs.WorkedSettings.{at, at_speed, blocks_over, cell_box, flow_in, moving_row, refined, roots_of, run_of, totals_in, two_blocks}
 
 -- between reflecting faces 8 moves on by one part in four
 abbrev pub eight : Settings

@@ -1,16 +1,14 @@
 -- Worked examples of shares, looks and regions, with their numbers written out.
-use Rattle.std.specs.Prelude.{◌≡◌, ℕ, ◌+◌, pos, true, false, List, [], ◌∷◌, codes, map}
-use Rattle.morton_order.specs.declared.space.Loc.{Loc}
+use Rattle.std.specs.Prelude.{◌≡◌, true, false, [], ◌∷◌, codes, map}
 use Rattle.mesh_num.specs.Share.{share}
 use Rattle.problem_set.specs.Settings.{Settings}
 use Rattle.problem_set.specs.declared.words.Mode.TheVariants.{Fixed}
 use Rattle.mesh_rules.specs.Sums.{table}
-use Rattle.mesh_rules.specs.Mesh.{Mesh}
 use Rattle.mesh_rules.specs.Look.{look}
 use Rattle.mesh_rules.specs.Opening.{opening_mesh}
 use Rattle.mesh_rules.specs.Regions.{region}
 use Rattle.mesh_rules.specs.Due.{ghost_letters, flux_letters}
-use Rattle.mesh_rules.specs.WorkedSettings.{at, at_speed, cell_box, field, moving, moving_row, refined, roots_of, two_blocks}
+use Rattle.mesh_rules.specs.WorkedSettings.{at, cell_box, moving_row, refined, roots_of, two_blocks}
 
 -- 11 over the eight children of a cell
 abbrev pub EightShares : Type 0

@@ -1,10 +1,9 @@
 -- Worked examples of the files of a run, with their texts written out.
-use Rattle.std.specs.Prelude.{◌≡◌, ℕ, false, List, [], ◌∷◌, codes}
+use Rattle.std.specs.Prelude.{◌≡◌, ℕ, List, [], ◌∷◌, codes}
 use Rattle.std.specs.List.{flat_map}
-use Rattle.problem_set.specs.Settings.{Settings}
 use Rattle.mesh_rules.specs.Reaction.{kernel_of}
 use Rattle.mesh_rules.specs.Texts.{line}
-use Rattle.mesh_rules.specs.Files.{NamedText, files_of, history_files}
+use Rattle.mesh_rules.specs.Files.{files_of, history_files}
 use Rattle.mesh_rules.specs.WorkedFaces.{eight}
 use Rattle.mesh_rules.specs.WorkedCycles.{beside}
 
@@ -24,19 +23,24 @@ FilesOfRow = let p = record eight { nlim = 2 } in
     (codes "mesh.000000.dump", dump_with (codes "cycle 0") (codes "8 0 0 0"))
     ∷ (codes "mesh.000001.dump", dump_with (codes "cycle 1") (codes "6 2 0 0"))
     ∷ (codes "mesh.000002.dump", dump_with (codes "cycle 2") (codes "5 3 0 0"))
-    ∷ (codes "mesh.hist", text (codes "parthenon-whole history 1"
-    ∷ codes "cycle 0 field a total 8 in 0 out 0 made 0 used 0 blocks 1"
-    ∷ codes "cycle 1 field a total 8 in 0 out 0 made 0 used 0 blocks 1"
-    ∷ codes "cycle 2 field a total 8 in 0 out 0 made 0 used 0 blocks 1"
-    ∷ codes "end" ∷ []))
+    ∷ (
+      codes "mesh.hist",
+      text (codes "parthenon-whole history 1"
+          ∷ codes "cycle 0 field a total 8 in 0 out 0 made 0 used 0 blocks 1"
+          ∷ codes "cycle 1 field a total 8 in 0 out 0 made 0 used 0 blocks 1"
+          ∷ codes "cycle 2 field a total 8 in 0 out 0 made 0 used 0 blocks 1"
+          ∷ codes "end" ∷ []),
+    )
     ∷ []
 
 -- with a threshold the history shows what was dropped
 abbrev pub HistoryWithDrops : Type 0
 HistoryWithDrops = let p = record (beside 8) { alloc_threshold = 8; nlim = 1 } in
-    history_files p (kernel_of p) (codes "mesh") ≡
-    (codes "mesh.hist", text (codes "parthenon-whole history 2"
-    ∷ codes "cycle 0 field a_0 total 8 in 0 out 0 made 0 used 0 drop 0 blocks 1"
-    ∷ codes "cycle 1 field a_0 total 6 in 0 out 0 made 0 used 0 drop 2 blocks 1"
-    ∷ codes "end" ∷ []))
+    history_files p (kernel_of p) (codes "mesh") ≡ (
+      codes "mesh.hist",
+      text (codes "parthenon-whole history 2"
+          ∷ codes "cycle 0 field a_0 total 8 in 0 out 0 made 0 used 0 drop 0 blocks 1"
+          ∷ codes "cycle 1 field a_0 total 6 in 0 out 0 made 0 used 0 drop 2 blocks 1"
+          ∷ codes "end" ∷ []),
+    )
     ∷ []

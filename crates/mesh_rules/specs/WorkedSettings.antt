@@ -1,5 +1,5 @@
 -- Settings for the worked examples.
-use Rattle.std.specs.Prelude.{ℕ, ◌+◌, ℤ, pos, Bool, true, false, cond, nat_le, Some, None, List, [], ◌∷◌, ◌++◌, codes, replicate}
+use Rattle.std.specs.Prelude.{ℕ, ◌+◌, ℤ, pos, Bool, false, cond, None, List, [], ◌∷◌, ◌++◌, replicate}
 use Rattle.morton_order.specs.declared.space.Loc.{Loc}
 use Rattle.morton_order.specs.declared.space.Shape.{Shape}
 use Rattle.package_fields.specs.declared.field.Field.{Field}
@@ -10,7 +10,7 @@ use Rattle.package_fields.specs.Flow.{no_flow}
 use Rattle.problem_set.specs.Settings.{Settings}
 use Rattle.problem_set.specs.declared.words.Mode.TheVariants.{Plain}
 use Rattle.problem_set.specs.declared.words.FaceKind.{FaceKind}
-use Rattle.problem_set.specs.declared.words.FaceKind.TheVariants.{Periodic, Reflecting}
+use Rattle.problem_set.specs.declared.words.FaceKind.TheVariants.{Reflecting}
 use Rattle.problem_set.specs.declared.entries.Moves.{Moves}
 use Rattle.problem_set.specs.declared.entries.StartBox.{StartBox}
 use Rattle.problem_set.specs.declared.entries.StaticAt.{StaticAt}
