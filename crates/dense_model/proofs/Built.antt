@@ -1,7 +1,7 @@
 -- What is built is one block along one axis.
-use Rattle.std.proofs.Common.{◌≡◌, ℕ, ◌%◌, ◌<◌, ◌≤◌, Bool, true, false, cond, not, ◌&&◌, nat_lt, nat_eq, List, [], ◌∷◌, length, get_or, All, refl, sym, ap, ◌∙◌, arith, ⊎_elim}
+use Rattle.std.proofs.Common.{◌≡◌, ℕ, zero, suc, ◌%◌, ◌<◌, ◌≤◌, Bool, true, false, cond, not, ◌&&◌, nat_lt, nat_eq, List, [], ◌∷◌, length, get_or, All, refl, sym, ap, ◌∙◌, arith, ⊎_elim}
 use Rattle.std.specs.Prelude.{slice_index}
-use Rattle.std.specs.List.{list_all}
+use Rattle.std.specs.List.{list_all, slice_index_or}
 use Rattle.std.proofs.Math.Nat.{mod-eq_of_lt}
 use Rattle.std.proofs.lemmas.Bool.{cases_lt}
 use Rattle.std.proofs.lemmas.Bool.Decides.{nat_tests}
@@ -14,7 +14,7 @@ use Rattle.problem_set.specs.SettingsOf.{settings_of}
 use Rattle.problem_set.specs.Sound.{IsCellsAlong}
 use Rattle.problem_set.specs.SoundEntries.{IsStatic}
 use Rattle.dense_model.specs.OfProblem.{is_built, is_first_order, is_plain, may_be_absent}
-use Rattle.dense_model.proofs.RowRuns.{IsOneRow}
+use Rattle.dense_model.proofs.RowRuns.{IsOneRow, IsSimple}
 
 left_of : (a b : Bool) → (a && b) ≡ true → a ≡ true
 left_of true b e = refl
@@ -37,16 +37,18 @@ pub record Tests (p : Settings) : Type 0 where
   pub roots : slice_index p.shape.root 0 ≡ 1
   pub plain : is_plain p.mode ≡ true
   pub levels : p.levels ≡ 1
+  pub present : list_all (λ f. not (may_be_absent f)) p.fields.fields ≡ true
   pub reactions : p.reactions ≡ []
+  pub first : list_all is_first_order p.moves ≡ true
 
-seven : (a b c d e f g : Bool) → (a && b && c && d && e && f && g) ≡ true → (a ≡ true) × (b ≡ true) × (c ≡ true) × (d ≡ true) × (f ≡ true)
+seven : (a b c d e f g : Bool) → (a && b && c && d && e && f && g) ≡ true → (a ≡ true) × (b ≡ true) × (c ≡ true) × (d ≡ true) × (e ≡ true) × (f ≡ true) × (g ≡ true)
 seven a b c d e f g all =
     let h = left_of (a && b && c && d && e && f) g all in
     let h1 = left_of (a && b && c && d && e) f h in
     let h2 = left_of (a && b && c && d) e h1 in
     let h3 = left_of (a && b && c) d h2 in
     let h4 = left_of (a && b) c h3 in
-    (left_of a b h4, right_of a b h4, right_of (a && b) c h3, right_of (a && b && c) d h2, right_of (a && b && c && d && e) f h)
+    (left_of a b h4, right_of a b h4, right_of (a && b) c h3, right_of (a && b && c) d h2, right_of (a && b && c && d) e h1, right_of (a && b && c && d && e) f h, right_of (a && b && c && d && e && f) g all)
 
 pub tests_of : (p : Settings) → is_built p ≡ true → Tests p
 tests_of p h =
@@ -56,7 +58,9 @@ tests_of p h =
       roots = is_one (slice_index p.shape.root 0) t.1;
       plain = t.2;
       levels = is_one p.levels t.3;
-      reactions = is_none p.reactions t.4;
+      present = t.4;
+      reactions = is_none p.reactions t.5;
+      first = t.6;
     }
 
 abbrev most_roots : Bool → ℕ
@@ -108,6 +112,25 @@ size2_is p h = dims_one (get_or p.size 1 0) (get_or p.size 2 0) (sym p.grid_soun
 pub size3_is : (p : Problem) → is_built (settings_of p) ≡ true → get_or p.size 2 0 ≡ 1
 size3_is p h = p.size_sound.flat3 (size2_is p h)
 
+all_at : {X : Type 0} (test : X → Bool) (xs : List X) (i : ℕ) (d : X) → list_all test xs ≡ true → i < length xs → test (slice_index_or xs i d) ≡ true
+all_at test [] i d h k = absurd (omega (arith, k))
+all_at test (x ∷ xs) zero d h k = left_of (test x) (list_all test xs) h
+all_at test (x ∷ xs) (suc i) d h k = all_at test xs i d (right_of (test x) (list_all test xs) h) (omega (arith, k))
+
+not_true : (b : Bool) → not b ≡ true → b ≡ false
+not_true true e = cc
+not_true false e = refl
+
+simple_of : (p : Problem) → is_built (settings_of p) ≡ true → IsSimple (settings_of p)
+simple_of p h =
+    let t = tests_of (settings_of p) h in
+    let same = p.fields_sound.same_length in
+    record {
+      first = λ f inside. is_one _ (all_at is_first_order p.moves f _ t.first (omega (arith, same, inside)));
+      present = λ f inside. not_true _ (all_at (λ g. not (may_be_absent g)) p.fields.fields f _ t.present inside);
+      no_reactions = t.reactions;
+    }
+
 pub one_row : (p : Problem) → is_built (settings_of p) ≡ true → IsOneRow (settings_of p)
 one_row p h =
     let t = tests_of (settings_of p) h in
@@ -124,5 +147,5 @@ one_row p h =
       statics = no_statics p.size p.levels p.statics t.levels p.entries_sound.statics_sound;
       levels = t.levels;
       plain = t.plain;
-      no_reactions = t.reactions;
+      simple = simple_of p h;
     }

@@ -15,20 +15,23 @@ use Rattle.problem_set.specs.Settings.{Settings}
 use Rattle.problem_set.specs.SettingsOf.{settings_of}
 use Rattle.problem_set.specs.SoundEntries.{IsBox, greatest_total}
 use Rattle.dense_model.specs.declared.row_stage.Moving.{Moving}
-use Rattle.dense_model.specs.Sums.{sum_over, sum_to, table}
-use Rattle.dense_model.specs.Mesh.{Mesh}
-use Rattle.dense_model.specs.Run.{holds}
+use Rattle.mesh_rules.specs.Mesh.{Mesh, cell_at, stored, total_of}
+use Rattle.morton_order.specs.declared.space.Shape.{Shape}
+use Rattle.mesh_rules.specs.Fit.{sum_of_all}
+use Rattle.mesh_rules.specs.Run.{Reached}
+use Rattle.mesh_rules.specs.Fields.{field_count}
+use Rattle.mesh_rules.specs.Opening.{holds}
+use Rattle.mesh_rules.specs.Sums.{sum_over, sum_to, table}
 use Rattle.dense_model.specs.Rows.{IsReady, RowState, row_sum, rows_later, sum_all}
-use Rattle.dense_model.specs.OfProblem.{box_of, is_built, rules_of}
+use Rattle.dense_model.specs.OfProblem.{is_built}
 use Rattle.dense_model.specs.RowRun.{IsRunAt, empty_states, moving_at, opening_rows, row_cell, row_mesh, rows_at, states_of, totals_in}
-use Rattle.dense_model.specs.RunFiles.{total_after, total_in}
-use Rattle.dense_model.specs.Texts.{total_of}
+use Rattle.dense_model.specs.RunFiles.{of_run, total_after}
 use Rattle.dense_model.specs.Flows.{no_row}
 use Rattle.dense_model.proofs.Built.{one_row, size2_is, size3_is, tests_of}
 use Rattle.dense_model.proofs.FieldBounds.{fields_are}
-use Rattle.dense_model.proofs.RowMesh.{table_same}
-use Rattle.dense_model.proofs.RowRuns.{rows_are, rows_at_zero, runs_to, table_at}
-use Rattle.dense_model.proofs.RowSums.{sum_table, sum_to_part}
+use Rattle.dense_model.proofs.RowMesh.{cell_is, stored_is, table_same}
+use Rattle.dense_model.proofs.RowRuns.{AreRows, rows_are, rows_at_zero, runs_to, table_at}
+use Rattle.dense_model.proofs.RowSums.{row_sum_is, sum_table, sum_to_part, sum_to_same}
 use Rattle.dense_model.proofs.RunBounds.{boxes_part, later_is, ready_at, sum_all_is, sum_within}
 
 -- the stages of a cycle lie within those of the run
@@ -61,32 +64,32 @@ at_start p rows built is = record {
 
 -- the rows with nothing in them
 abbrev pub empty_state : Settings → ℕ → RowState
-empty_state p f = record { moving = moving_at (rules_of p) p.shape f; cells = replicate (slice_index p.cells 0) 0 }
+empty_state p f = record { moving = moving_at p p.shape f; cells = replicate (slice_index p.cells 0) 0 }
 
 -- the rows with what some boxes put into them
 abbrev pub boxed_state : Settings → List ProblemBox → ℕ → RowState
-boxed_state p bs f = record { moving = moving_at (rules_of p) p.shape f; cells = table (slice_index p.cells 0) (λ place. boxes_part bs f place) }
+boxed_state p bs f = record { moving = moving_at p p.shape f; cells = table (slice_index p.cells 0) (λ place. boxes_part bs f place) }
 
 abbrev pub boxed_states : Settings → List ProblemBox → List RowState
-boxed_states p bs = table (length (rules_of p).fields) (boxed_state p bs)
+boxed_states p bs = table (field_count p) (boxed_state p bs)
 
-with_cells : (p : Settings) (f : ℕ) (xs ys : List ℕ) → xs ≡ ys → (let r : RowState = record { moving = moving_at (rules_of p) p.shape f; cells = xs } in r) ≡ (let r : RowState = record { moving = moving_at (rules_of p) p.shape f; cells = ys } in r)
+with_cells : (p : Settings) (f : ℕ) (xs ys : List ℕ) → xs ≡ ys → (let r : RowState = record { moving = moving_at p p.shape f; cells = xs } in r) ≡ (let r : RowState = record { moving = moving_at p p.shape f; cells = ys } in r)
 with_cells p f xs ys e = cc
 
 pub boxes_start : (p : Settings) → empty_states p ≡ boxed_states p []
 boxes_start p =
-    table_same (length (rules_of p).fields) (empty_state p) (boxed_state p [])
+    table_same (field_count p) (empty_state p) (boxed_state p [])
     (λ f inside. with_cells p f (replicate (slice_index p.cells 0) 0) (table (slice_index p.cells 0) (λ place. 0))
     (fill_by_all (λ place. 0) (replicate (slice_index p.cells 0) 0) (slice_index p.cells 0) 0 (length-replicate (slice_index p.cells 0) 0) (λ k below. get_or-replicate (slice_index p.cells 0) k 0 0 below)))
 
 pub boxes_end : (p : Settings) → boxed_states p p.boxes ≡ states_of p (opening_rows p)
 boxes_end p =
     let rows : ℕ → List ℕ = λ f. table (slice_index p.cells 0) (λ place. boxes_part p.boxes f place) in
-    table_same (length (rules_of p).fields) (boxed_state p p.boxes) (λ f. (let r : RowState = record { moving = moving_at (rules_of p) p.shape f; cells = slice_index_or (opening_rows p) f [] } in r))
-    (λ f inside. with_cells p f (rows f) (slice_index_or (opening_rows p) f []) (sym (table_at (length (rules_of p).fields) rows f [] inside)))
+    table_same (field_count p) (boxed_state p p.boxes) (λ f. (let r : RowState = record { moving = moving_at p p.shape f; cells = slice_index_or (opening_rows p) f [] } in r))
+    (λ f inside. with_cells p f (rows f) (slice_index_or (opening_rows p) f []) (sym (table_at (field_count p) rows f [] inside)))
 
 -- one box more
-boxes_more : (bs : List ProblemBox) (i : ℕ) (d : ProblemBox) (f place : ℕ) → i < length bs → boxes_part (take (suc i) bs) f place ≡ boxes_part (take i bs) f place + cond ((slice_index_or bs i d).field == f && holds (box_of (slice_index_or bs i d)) (row_cell place)) (slice_index_or bs i d).amount 0
+boxes_more : (bs : List ProblemBox) (i : ℕ) (d : ProblemBox) (f place : ℕ) → i < length bs → boxes_part (take (suc i) bs) f place ≡ boxes_part (take i bs) f place + cond ((slice_index_or bs i d).field == f && holds (slice_index_or bs i d) (row_cell place)) (slice_index_or bs i d).amount 0
 boxes_more [] i d f place h = absurd (omega (arith, h))
 boxes_more (b ∷ bs) zero d f place h = omega arith
 boxes_more (b ∷ bs) (suc i) d f place h = omega (arith, boxes_more bs i d f place (omega (arith, h)))
@@ -97,10 +100,10 @@ boxes_few [] (suc i) f place = omega arith
 boxes_few (b ∷ bs) zero f place = omega arith
 boxes_few (b ∷ bs) (suc i) f place = omega (arith, boxes_few bs i f place)
 
-box_here : (b : ProblemBox) (f place : ℕ) → b.field ≡ f → slice_index b.lo 1 ≡ 0 → slice_index b.lo 2 ≡ 0 → cond (b.field == f && holds (box_of b) (row_cell place)) b.amount 0 ≡ cond (nat_le (slice_index b.lo 0) place && nat_le place (slice_index b.hi 0)) b.amount 0
+box_here : (b : ProblemBox) (f place : ℕ) → b.field ≡ f → slice_index b.lo 1 ≡ 0 → slice_index b.lo 2 ≡ 0 → cond (b.field == f && holds b (row_cell place)) b.amount 0 ≡ cond (nat_le (slice_index b.lo 0) place && nat_le place (slice_index b.hi 0)) b.amount 0
 box_here b f place e low2 low3 =
     let same : nat_eq b.field f ≡ true = grind (arith, nat_tests) in
-    ap (λ (t : Bool). cond (t && holds (box_of b) (row_cell place)) b.amount 0) same
+    ap (λ (t : Bool). cond (t && holds b (row_cell place)) b.amount 0) same
     ∙ ap (λ (l : ℕ). cond ((nat_le (slice_index b.lo 0) place && nat_le place (slice_index b.hi 0)) && ((nat_le l 0 && nat_le 0 (slice_index b.hi 1)) && ((nat_le (slice_index b.lo 2) 0 && nat_le 0 (slice_index b.hi 2)) && true))) b.amount 0) low2
     ∙ ap (λ (l : ℕ). cond ((nat_le (slice_index b.lo 0) place && nat_le place (slice_index b.hi 0)) && ((nat_le 0 0 && nat_le 0 (slice_index b.hi 1)) && ((nat_le l 0 && nat_le 0 (slice_index b.hi 2)) && true))) b.amount 0) low3
     ∙ rest (nat_le (slice_index b.lo 0) place && nat_le place (slice_index b.hi 0)) (nat_le 0 (slice_index b.hi 1)) (nat_le 0 (slice_index b.hi 2)) (least (slice_index b.hi 1)) (least (slice_index b.hi 2))
@@ -112,10 +115,10 @@ box_here b f place e low2 low3 =
     rest true u v g h = ap (λ (w : Bool). cond ((true && w) && ((true && v) && true)) b.amount 0) g ∙ ap (λ (w : Bool). cond ((true && true) && ((true && w) && true)) b.amount 0) h
     rest false u v g h = refl
 
-box_elsewhere : (b : ProblemBox) (f place : ℕ) → f ≢ b.field → cond (b.field == f && holds (box_of b) (row_cell place)) b.amount 0 ≡ 0
+box_elsewhere : (b : ProblemBox) (f place : ℕ) → f ≢ b.field → cond (b.field == f && holds b (row_cell place)) b.amount 0 ≡ 0
 box_elsewhere b f place other =
     let differs : nat_eq b.field f ≡ false = grind (arith, nat_tests) in
-    ap (λ (t : Bool). cond (t && holds (box_of b) (row_cell place)) b.amount 0) differs
+    ap (λ (t : Bool). cond (t && holds b (row_cell place)) b.amount 0) differs
 
 -- what a box asks of the row of its field
 pub record FitsRow (p : Problem) (b : ProblemBox) (i : ℕ) (rows : List RowState) : Type 0 where
@@ -130,9 +133,9 @@ box_is p i d inside = All-get_or (IsBox p.size (length p.moves)) p.boxes i d ins
 cells_are_size : (p : Problem) → is_built (settings_of p) ≡ true → slice_index p.size 0 ≡ slice_index p.cells 0
 cells_are_size p built = sym p.grid_sound.covers1 ∙ ap (λ (r : ℕ). r * slice_index p.cells 0) (tests_of (settings_of p) built).roots ∙ omega arith
 
-part-le : (p : Problem) (f place : ℕ) → is_built (settings_of p) ≡ true → f < length (rules_of (settings_of p)).fields → place < slice_index p.cells 0 → boxes_part p.boxes f place ≤ greatest_total
+part-le : (p : Problem) (f place : ℕ) → is_built (settings_of p) ≡ true → f < field_count (settings_of p) → place < slice_index p.cells 0 → boxes_part p.boxes f place ≤ greatest_total
 part-le p f place built inside within =
-    let fields = length (rules_of (settings_of p)).fields in
+    let fields = field_count (settings_of p) in
     let n = slice_index p.cells 0 in
     let rows : ℕ → List ℕ = λ g. table n (λ k. boxes_part p.boxes g k) in
     let whole = sum_within p built 0 (omega arith) in
@@ -146,7 +149,7 @@ box_fits_row p i d rows built inside is =
     let s = settings_of p in
     let b = slice_index_or p.boxes i d in
     let ok = box_is p i d inside in
-    let fields = length (rules_of s).fields in
+    let fields = field_count s in
     let n = slice_index p.cells 0 in
     let count = ap length is ∙ length-map-range_with_len (boxed_state s (take i p.boxes)) 0 fields in
     let here : b.field < fields = omega (arith, ok.field, fields_are p) in
@@ -173,7 +176,7 @@ box_added p i d rows built inside is =
     let s = settings_of p in
     let b = slice_index_or p.boxes i d in
     let ok = box_is p i d inside in
-    let fields = length (rules_of s).fields in
+    let fields = field_count s in
     let n = slice_index p.cells 0 in
     let before : List RowState = boxed_states s (take i p.boxes) in
     let count = length-map-range_with_len (boxed_state s (take i p.boxes)) 0 fields in
@@ -218,37 +221,39 @@ sum_mapped each f (x ∷ xs) = omega (arith, sum_mapped each f xs)
 -- the totals that are kept are those of the rows
 pub totals_kept : (p : Settings) (t : ℕ) → totals_in (states_of p (rows_at p t)) ≡ rows_at p t
 totals_kept p t =
-    let fields = length (rules_of p).fields in
+    let fields = field_count p in
     let rows = rows_at p t in
-    twice (λ (r : RowState). r.cells) (λ f. (let r : RowState = record { moving = moving_at (rules_of p) p.shape f; cells = slice_index_or rows f [] } in r)) (range_with_len 0 fields)
+    twice (λ (r : RowState). r.cells) (λ f. (let r : RowState = record { moving = moving_at p p.shape f; cells = slice_index_or rows f [] } in r)) (range_with_len 0 fields)
     ∙ sym (fill_by_all (λ f. slice_index_or rows f []) rows fields [] (rows_are p t).fields_are (λ k below. refl))
   where
     twice : (g : RowState → List ℕ) (f : ℕ → RowState) (xs : List ℕ) → map g (map f xs) ≡ map (λ x. g (f x)) xs
     twice g f [] = refl
     twice g f (x ∷ xs) = ap (λ (zs : List (List ℕ)). g (f x) ∷ zs) (twice g f xs)
 
-pub over_range : (n : ℕ) (each : ℕ → ℕ) → sum_over (range_with_len 0 n) each ≡ sum_to n each
-over_range n each = sym (sum_mapped (λ (t : ℕ). t) each (range_with_len 0 n)) ∙ sum_table n each (λ (t : ℕ). t)
+-- a field's total on the mesh is the sum of its row
+pub one_leaf : (s : Shape) (n : ℕ) (rows : List (List ℕ)) (f : ℕ) → length (slice_index_or rows f []) ≡ n → total_of (row_mesh s n rows) f ≡ row_sum (slice_index_or rows f [])
+one_leaf s n rows f cells =
+    let m : Mesh = row_mesh s n rows in
+    let each : ℕ → ℕ = λ place. stored m f (cell_at m (row_cell 0) place) in
+    let size : n * 1 * 1 ≡ n = omega arith in
+    let whole : sum_to (n * 1 * 1) each ≡ sum_to n each = ap (λ (k : ℕ). sum_to k each) size in
+    let same = sum_to_same n each (λ k. get_or (slice_index_or rows f []) k 0) (λ k below. ap (stored m f) (cell_is s n rows k below) ∙ stored_is s n rows f k below) in
+    let alone : total_of m f ≡ sum_to (n * 1 * 1) each = omega arith in
+    alone ∙ whole ∙ same ∙ sym (row_sum_is n (slice_index_or rows f []) cells)
 
-pub one_leaf : (p : Problem) (rows : List (List ℕ)) (f : ℕ) → total_of (row_mesh p.shape (slice_index p.cells 0) rows) f ≡ row_sum (slice_index_or rows f [])
-one_leaf p rows f = omega arith
+pub all_leaves : (p : Settings) (s : Shape) (n : ℕ) (rows : List (List ℕ)) → AreRows (field_count p) n rows → sum_of_all p (row_mesh s n rows) ≡ sum_all rows
+all_leaves p s n rows are =
+    sum_to_same (field_count p) (total_of (row_mesh s n rows)) (λ f. row_sum (slice_index_or rows f [])) (λ f inside. one_leaf s n rows f (are.cells_are f inside))
+    ∙ sym (sum_all_is (field_count p) rows are.fields_are)
 
 -- what all totals add up to
 pub total_is : (p : Problem) (cycle : ℕ) → is_built (settings_of p) ≡ true → total_after (settings_of p) cycle ≡ sum_all (rows_at (settings_of p) (cycle * p.nstages))
 total_is p cycle built =
     let s = settings_of p in
     let r = runs_to s (one_row p built) cycle in
-    let fields = length (rules_of s).fields in
-    let rows = rows_at s (cycle * p.nstages) in
-    ap (total_in fields) r.runs
-    ∙ ap (λ (m : Mesh). sum_over (range_with_len 0 fields) (total_of m)) r.mesh_is
-    ∙ over_range fields (total_of (row_mesh p.shape (slice_index p.cells 0) rows))
-    ∙ sum_same fields (λ f. one_leaf p rows f)
-    ∙ sym (sum_all_is fields rows (rows_are s (cycle * p.nstages)).fields_are)
-  where
-    sum_same : (n : ℕ) → ((f : ℕ) → total_of (row_mesh p.shape (slice_index p.cells 0) (rows_at (settings_of p) (cycle * p.nstages))) f ≡ row_sum (slice_index_or (rows_at (settings_of p) (cycle * p.nstages)) f [])) → sum_to n (total_of (row_mesh p.shape (slice_index p.cells 0) (rows_at (settings_of p) (cycle * p.nstages)))) ≡ sum_to n (λ f. row_sum (slice_index_or (rows_at (settings_of p) (cycle * p.nstages)) f []))
-    sum_same zero same = refl
-    sum_same (suc n) same = omega (arith, sum_same n same, same n)
+    ap (of_run (λ (x : Reached). sum_of_all s x.state.mesh) 0) r.runs
+    ∙ ap (sum_of_all s) r.mesh_is
+    ∙ all_leaves s p.shape (slice_index p.cells 0) (rows_at s (cycle * p.nstages)) (rows_are s (cycle * p.nstages))
 
 pub kept_small : (p : Problem) (cycle : ℕ) (rows : List RowState) → IsRunAt (settings_of p) cycle rows → sum_all (totals_in rows) ≤ greatest_total
 kept_small p cycle rows at =
@@ -304,7 +309,7 @@ pub empty_more : (p : Settings) (i : ℕ) (rows new : List RowState) (row : RowS
 empty_more p i rows new row so_far pushed is =
     pushed ∙ ap (λ (rs : List RowState). rs ++ row ∷ []) so_far ∙ ap (λ (r : RowState). map (empty_state p) (range_with_len 0 i) ++ r ∷ []) is ∙ sym (map-range_with_len_more (empty_state p) 0 i i (omega arith))
 
-pub empty_is : (p : Settings) (f cells : ℕ) (row : RowState) (moving : Moving) → row ≡ (let r : RowState = record { moving = moving; cells = replicate cells 0 } in r) → moving ≡ moving_at (rules_of p) p.shape f → cells ≡ slice_index p.cells 0 → row ≡ empty_state p f
+pub empty_is : (p : Settings) (f cells : ℕ) (row : RowState) (moving : Moving) → row ≡ (let r : RowState = record { moving = moving; cells = replicate cells 0 } in r) → moving ≡ moving_at p p.shape f → cells ≡ slice_index p.cells 0 → row ≡ empty_state p f
 empty_is p f cells row moving is moves same = cc
 
 pub same_item : {X : Type 0} (xs : List X) (i : ℕ) (d e : X) → i < length xs → get_or xs i d ≡ get_or xs i e

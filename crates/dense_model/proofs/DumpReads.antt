@@ -6,11 +6,11 @@ use Rattle.std.proofs.lemmas.List.FromFn.{length-map-range_with_len}
 use Rattle.package_fields.specs.Fields.{labels}
 use Rattle.problem_set.specs.declared.problem.Problem.{Problem}
 use Rattle.problem_set.specs.SettingsOf.{settings_of}
+use Rattle.mesh_rules.specs.Fields.{field_count}
 use Rattle.dense_model.specs.Rows.{RowState}
-use Rattle.dense_model.specs.OfProblem.{rules_of}
+use Rattle.mesh_rules.specs.Texts.{line}
 use Rattle.dense_model.specs.RowRun.{IsRunAt, moving_at, rows_at, totals_in}
 use Rattle.dense_model.specs.RowTexts.{block_lines, heading_lines}
-use Rattle.dense_model.specs.Texts.{line}
 use Rattle.dense_model.specs.RunFiles.{dump_after}
 use Rattle.dense_model.proofs.CycleSteps.{totals_kept}
 use Rattle.dense_model.proofs.FieldBounds.{fields_are}
@@ -20,7 +20,7 @@ use Rattle.dense_model.proofs.RunReads.{dump_is}
 
 pub kept_count : (p : Problem) (cycle : ℕ) (rows : List RowState) → IsRunAt (settings_of p) cycle rows → length rows ≤ length p.fields.fields
 kept_count p cycle rows at =
-    omega (arith, ap (λ (rs : List RowState). length rs) at.rows_are, length-map-range_with_len (λ f. (let r : RowState = record { moving = moving_at (rules_of (settings_of p)) p.shape f; cells = slice_index_or (rows_at (settings_of p) (cycle * p.nstages)) f [] } in r)) 0 (length (rules_of (settings_of p)).fields), fields_are p, p.fields_sound.same_length)
+    omega (arith, ap (λ (rs : List RowState). length rs) at.rows_are, length-map-range_with_len (λ f. (let r : RowState = record { moving = moving_at (settings_of p) p.shape f; cells = slice_index_or (rows_at (settings_of p) (cycle * p.nstages)) f [] } in r)) 0 (field_count (settings_of p)), fields_are p, p.fields_sound.same_length)
 
 pub kept_dump : (p : Problem) (cycle : ℕ) (rows : List RowState) → IsRunAt (settings_of p) cycle rows
     → heading_lines (slice_index p.cells 0) (labels p.fields.fields) cycle ++ block_lines (labels p.fields.fields) (totals_in rows) ++ line (codes "end") ≡ dump_after (settings_of p) cycle

@@ -1,5 +1,6 @@
 -- A field's total changes by what passes the faces of the domain alone.
 use Rattle.std.proofs.Common.{◌≡◌, ℕ, zero, suc, ◌+◌, ◌-◌, ◌*◌, ◌<◌, true, List, [], length, get_or, refl, sym, ap, ◌∙◌, arith}
+use Rattle.std.specs.Prelude.{slice_index}
 use Rattle.std.specs.List.{slice_index_or}
 use Rattle.problem_set.specs.declared.problem.Problem.{Problem}
 use Rattle.problem_set.specs.SettingsOf.{settings_of}
@@ -9,14 +10,15 @@ use Rattle.dense_model.specs.declared.row_stage.Ends.{Ends}
 use Rattle.dense_model.specs.declared.row_stage.Ends.TheVariants.{Joined, Apart}
 use Rattle.dense_model.specs.declared.row_stage.Moving.{Moving}
 use Rattle.dense_model.specs.declared.row_stage.Transport.{Transport}
-use Rattle.dense_model.specs.Sums.{sum_to}
-use Rattle.dense_model.specs.Mesh.{Mesh}
-use Rattle.dense_model.specs.Texts.{total_of}
+use Rattle.mesh_rules.specs.Mesh.{Mesh, total_of}
+use Rattle.mesh_rules.specs.Fields.{field_count}
+use Rattle.mesh_rules.specs.Run.{Reached}
+use Rattle.mesh_rules.specs.Sums.{sum_to}
 use Rattle.dense_model.specs.Rows.{high_end, low_end, row_staged, row_sum}
 use Rattle.dense_model.specs.Flows.{flow_of, flow_over, flow_through, no_flow}
-use Rattle.dense_model.specs.OfProblem.{is_built, rules_of}
+use Rattle.dense_model.specs.OfProblem.{is_built}
 use Rattle.dense_model.specs.RowRun.{flow_at, flows_at, moving_at, rows_at}
-use Rattle.dense_model.specs.RunFiles.{field_total_after, field_total_in}
+use Rattle.dense_model.specs.RunFiles.{field_total_after, of_run}
 use Rattle.dense_model.specs.RunLaws.{TotalsChangeByFlow}
 use Rattle.dense_model.proofs.Built.{one_row}
 use Rattle.dense_model.proofs.CycleSteps.{one_leaf}
@@ -52,12 +54,12 @@ field_row p f stages = slice_index_or (rows_at (settings_of p) stages) f []
 stage_changes : (p : Problem) (f t : ℕ) → is_built (settings_of p) ≡ true → f < length p.moves → row_sum (field_row p f (suc t)) + (flow_at (settings_of p) t f).outflow ≡ row_sum (field_row p f t) + (flow_at (settings_of p) t f).inflow
 stage_changes p f t built inside =
     let s = settings_of p in
-    let fields = length (rules_of s).fields in
+    let fields = field_count s in
     let here : f < fields = omega (arith, inside, fields_are p) in
-    let m = moving_at (rules_of s) p.shape f in
+    let m = moving_at s p.shape f in
     let row = field_row p f t in
     let cells = (rows_are s t).cells_are f here in
-    let next = ap (λ (rows : List (List ℕ)). slice_index_or rows f []) (rows_at_next s t) ∙ table_at fields (λ g. row_staged (moving_at (rules_of s) p.shape g) (slice_index_or (rows_at s t) g [])) f [] here in
+    let next = ap (λ (rows : List (List ℕ)). slice_index_or rows f []) (rows_at_next s t) ∙ table_at fields (λ g. row_staged (moving_at s p.shape g) (slice_index_or (rows_at s t) g [])) f [] here in
     omega (arith, ap row_sum next, row_changes m row (within_of m (proper_at p f built inside)) (omega (arith, cells, p.grid_sound.cells_sound.along1.least)))
 
 stages_change : (p : Problem) (f t n : ℕ) → is_built (settings_of p) ≡ true → f < length p.moves
@@ -68,16 +70,16 @@ stages_change p f t (suc n) built inside =
     omega (arith, stages_change p f t n built inside, stage_changes p f (t + n) built inside, ap (λ (k : ℕ). row_sum (field_row p f k)) e)
 
 -- a field's total on the run's mesh is the sum of its row
-total_is_sum : (p : Problem) (cycle f : ℕ) → is_built (settings_of p) ≡ true → field_total_after (settings_of p) cycle f ≡ row_sum (field_row p f (cycle * p.nstages))
-total_is_sum p cycle f built =
+total_is_sum : (p : Problem) (cycle f : ℕ) → is_built (settings_of p) ≡ true → f < length p.moves → field_total_after (settings_of p) cycle f ≡ row_sum (field_row p f (cycle * p.nstages))
+total_is_sum p cycle f built inside =
     let r = runs_to (settings_of p) (one_row p built) cycle in
-    ap (field_total_in f) r.runs ∙ ap (λ (m : Mesh). total_of m f) r.mesh_is ∙ one_leaf p (rows_at (settings_of p) (cycle * p.nstages)) f
+    ap (of_run (λ (x : Reached). total_of x.state.mesh f) 0) r.runs ∙ ap (λ (m : Mesh). total_of m f) r.mesh_is ∙ one_leaf p.shape (slice_index p.cells 0) (rows_at (settings_of p) (cycle * p.nstages)) f ((rows_are (settings_of p) (cycle * p.nstages)).cells_are f (omega (arith, inside, fields_are p)))
 
 kept_next : (p : Problem) (cycle f : ℕ) → f < length p.moves → slice_index_or (flows_at (settings_of p) (suc cycle)) f no_flow ≡ flow_over p.nstages (λ k. flow_at (settings_of p) (cycle * p.nstages + k) f)
 unfolding flows_at
 kept_next p cycle f inside =
     let s = settings_of p in
-    table_at (length (rules_of s).fields) (λ g. flow_over p.nstages (λ k. flow_at s (cycle * p.nstages + k) g)) f no_flow (omega (arith, inside, fields_are p))
+    table_at (field_count s) (λ g. flow_over p.nstages (λ k. flow_at s (cycle * p.nstages + k) g)) f no_flow (omega (arith, inside, fields_are p))
 
 pub changes_by_flow : TotalsChangeByFlow
 changes_by_flow p cycle f built more inside =
@@ -90,8 +92,8 @@ changes_by_flow p cycle f built more inside =
     omega (
       arith,
       stages_change p f t p.nstages built inside,
-      total_is_sum p (cycle + 1) f built,
-      total_is_sum p cycle f built,
+      total_is_sum p (cycle + 1) f built inside,
+      total_is_sum p cycle f built inside,
       ap (λ (k : ℕ). row_sum (field_row p f k)) count,
       flow.in_is ∙ ap (λ (b : BoundaryFlow). b.inflow) kept,
       flow.out_is ∙ ap (λ (b : BoundaryFlow). b.outflow) kept,

@@ -1,5 +1,5 @@
 -- What passes the faces of the domain of a mesh of rows.
-use Rattle.std.proofs.Common.{◌≡◌, ℕ, zero, suc, ◌+◌, ◌-◌, ◌*◌, ◌<◌, Bool, true, false, cond, nat_lt, Option, Some, None, List, [], length, refl, sym, ap, ◌∙◌, arith, ⊎_elim}
+use Rattle.std.proofs.Common.{replicate, ◌≡◌, ℕ, zero, suc, ◌+◌, ◌-◌, ◌*◌, ◌<◌, Bool, true, false, cond, nat_lt, Option, Some, None, List, [], length, refl, sym, ap, ◌∙◌, arith, ⊎_elim}
 use Rattle.std.specs.Prelude.{slice_index}
 use Rattle.std.specs.Option.{option_map}
 use Rattle.std.specs.List.{slice_index_or}
@@ -15,22 +15,26 @@ use Rattle.problem_set.specs.SettingsOf.{settings_of}
 use Rattle.dense_model.specs.declared.flows.BoundaryFlow.{BoundaryFlow}
 use Rattle.dense_model.specs.declared.row_stage.Passing.{Passing}
 use Rattle.dense_model.specs.declared.row_stage.Moving.{Moving}
-use Rattle.dense_model.specs.Sums.{sum_to}
-use Rattle.dense_model.specs.Rules.{Rules}
-use Rattle.dense_model.specs.Mesh.{Mesh, cell_at}
-use Rattle.dense_model.specs.Faces.{cell_across, flux}
-use Rattle.dense_model.specs.Stage.{cell_inflow, cell_outflow, inflow_of, outflow_of, when_outside}
-use Rattle.dense_model.specs.Run.{Flow, cycle_flow, no_flows, staged_mesh}
+use Rattle.mesh_rules.specs.Faces.{cell_across}
+use Rattle.mesh_rules.specs.Mesh.{Mesh, cell_at}
+use Rattle.mesh_rules.specs.Stage.{cell_inflow, cell_outflow, leaf_inflow, leaf_outflow, when_outside}
+use Rattle.mesh_rules.specs.Fields.{field_count, moves_at}
+use Rattle.mesh_rules.specs.Reaction.{kernel_of}
+use Rattle.mesh_rules.specs.Cycle.{State, flow_of as cycle_flow, leaf_flow, staged_to}
+use Rattle.mesh_rules.specs.Run.{Reached, last_flow}
+use Rattle.package_fields.specs.declared.flow.Flow.{Flow}
+use Rattle.package_fields.specs.Flow.{no_flow as flow_zero}
+use Rattle.mesh_rules.specs.Sums.{sum_over, sum_to}
+use Rattle.problem_set.specs.Settings.{Settings}
 use Rattle.dense_model.specs.Rows.{high_face, low_face, passing}
 use Rattle.dense_model.specs.Flows.{flow_of, flow_over, flow_through, no_flow}
-use Rattle.dense_model.specs.OfProblem.{is_built, rules_of}
+use Rattle.dense_model.specs.OfProblem.{is_built}
 use Rattle.dense_model.specs.RowRun.{flow_at, flows_at, moving_at, row_cell, row_mesh, rows_at}
-use Rattle.dense_model.specs.RunFiles.{flow_after, flow_in, run_of}
+use Rattle.dense_model.specs.RunFiles.{flow_after, of_run}
 use Rattle.dense_model.proofs.Built.{one_row}
-use Rattle.dense_model.proofs.CycleSteps.{over_range}
 use Rattle.dense_model.proofs.FieldBounds.{fields_are}
 use Rattle.dense_model.proofs.RowFacts.{passing_last}
-use Rattle.dense_model.proofs.RowMesh.{IsRow, across_is, cell_is, ends_by, flux_is, moving_opened, one_axis, same_high, same_low, width_is}
+use Rattle.dense_model.proofs.RowMesh.{IsRow, across_is, cell_is, ends_by, flux, flux_is, moving_opened, one_axis, same_high, same_low, width_is}
 use Rattle.dense_model.proofs.RowRuns.{rows_are, rows_at_more, run_goes_on, run_starts, runs_to, staged_mesh_is, table_at}
 use Rattle.dense_model.proofs.RowSums.{sum_to_both, sum_to_same}
 
@@ -44,19 +48,19 @@ outside_gone None x = refl
 outside_gone (Some _) x = refl
 
 -- what passes the two sides of a cell
-pub record Sides (rules : Rules) (s : Shape) (n : ℕ) (rows : List (List ℕ)) (f place : ℕ) : Type 0 where
+pub record Sides (rules : Settings) (s : Shape) (n : ℕ) (rows : List (List ℕ)) (f place : ℕ) : Type 0 where
   pub inward : cell_inflow rules (row_mesh s n rows) f (row_cell place) ≡ when_gone (step n (wraps s 0) false place) (passing (moving_at rules s f) (slice_index_or rows f []) place).right + when_gone (step n (wraps s 0) true place) (passing (moving_at rules s f) (slice_index_or rows f []) (place + 1)).left
   pub outward : cell_outflow rules (row_mesh s n rows) f (row_cell place) ≡ when_gone (step n (wraps s 0) false place) (passing (moving_at rules s f) (slice_index_or rows f []) place).left + when_gone (step n (wraps s 0) true place) (passing (moving_at rules s f) (slice_index_or rows f []) (place + 1)).right
 
-one_side : (rules : Rules) (s : Shape) (n : ℕ) (rows : List (List ℕ)) (f place passed : ℕ) (high right : Bool) → IsRow s → flux rules (row_mesh s n rows) f (row_cell place) 0 high right ≡ passed
+one_side : (rules : Settings) (s : Shape) (n : ℕ) (rows : List (List ℕ)) (f place passed : ℕ) (high right : Bool) → IsRow s → flux rules (row_mesh s n rows) f (row_cell place) 0 high right ≡ passed
     → when_outside (cell_across (row_mesh s n rows) (row_cell place) 0 high) (flux rules (row_mesh s n rows) f (row_cell place) 0 high right) ≡ when_gone (step n (wraps s 0) high place) passed
 one_side rules s n rows f place passed high right row is =
     ap (λ (o : Option Loc). when_outside o (flux rules (row_mesh s n rows) f (row_cell place) 0 high right)) (across_is s n rows place high row)
     ∙ ap (when_outside (option_map row_cell (step n (wraps s 0) high place))) is
     ∙ outside_gone (step n (wraps s 0) high place) passed
 
-sides : (rules : Rules) (s : Shape) (n : ℕ) (rows : List (List ℕ)) (f place : ℕ) → IsRow s → length (slice_index_or rows f []) ≡ n → place < n → Sides rules s n rows f place
-sides rules s n rows f place row cells inside =
+sides : (rules : Settings) (s : Shape) (n : ℕ) (rows : List (List ℕ)) (f place : ℕ) → (moves_at rules f).order ≡ 1 → IsRow s → length (slice_index_or rows f []) ≡ n → place < n → Sides rules s n rows f place
+sides rules s n rows f place first row cells inside =
     let m : Mesh = row_mesh s n rows in
     let c : Loc = row_cell place in
     let r : List ℕ = slice_index_or rows f [] in
@@ -64,10 +68,10 @@ sides rules s n rows f place row cells inside =
     let low = same_low rules s f r place here in
     let high = same_high rules s f r place here in
     let width = width_is rules s n f place r cells in
-    let low_right = one_side rules s n rows f place _ false true row (flux_is rules s n rows f place false true row inside ∙ width false true ∙ low.right) in
-    let low_left = one_side rules s n rows f place _ false false row (flux_is rules s n rows f place false false row inside ∙ width false false ∙ low.left) in
-    let high_right = one_side rules s n rows f place _ true true row (flux_is rules s n rows f place true true row inside ∙ width true true ∙ high.right) in
-    let high_left = one_side rules s n rows f place _ true false row (flux_is rules s n rows f place true false row inside ∙ width true false ∙ high.left) in
+    let low_right = one_side rules s n rows f place _ false true row (flux_is rules s n rows f place false true first row inside ∙ width false true ∙ low.right) in
+    let low_left = one_side rules s n rows f place _ false false row (flux_is rules s n rows f place false false first row inside ∙ width false false ∙ low.left) in
+    let high_right = one_side rules s n rows f place _ true true row (flux_is rules s n rows f place true true first row inside ∙ width true true ∙ high.right) in
+    let high_left = one_side rules s n rows f place _ true false row (flux_is rules s n rows f place true false first row inside ∙ width true false ∙ high.left) in
     record {
       inward = one_axis s.dims (λ axis. when_outside (cell_across m c axis false) (flux rules m f c axis false true) + when_outside (cell_across m c axis true) (flux rules m f c axis true false)) row.one_axis ∙ omega (arith, low_right, high_left);
       outward = one_axis s.dims (λ axis. when_outside (cell_across m c axis false) (flux rules m f c axis false false) + when_outside (cell_across m c axis true) (flux rules m f c axis true true)) row.one_axis ∙ omega (arith, low_left, high_right);
@@ -118,31 +122,31 @@ pub record SameFlow (inflow outflow : ℕ) (flow : BoundaryFlow) : Type 0 where
   pub in_is : inflow ≡ flow.inflow
   pub out_is : outflow ≡ flow.outflow
 
-by_ends : (wrap : Bool) (rules : Rules) (dims f : ℕ) (low high : Passing) → SameFlow (cond wrap 0 (low.right + high.left)) (cond wrap 0 (low.left + high.right)) (flow_through (ends_by wrap rules dims f) low high)
-by_ends true rules dims f low high = record { in_is = refl; out_is = refl }
-by_ends false rules dims f low high = record { in_is = refl; out_is = refl }
+by_ends : (wrap : Bool) (rules : Settings) (f : ℕ) (low high : Passing) → SameFlow (cond wrap 0 (low.right + high.left)) (cond wrap 0 (low.left + high.right)) (flow_through (ends_by wrap rules f) low high)
+by_ends true rules f low high = record { in_is = refl; out_is = refl }
+by_ends false rules f low high = record { in_is = refl; out_is = refl }
 
-pub mesh_flow : (rules : Rules) (s : Shape) (n : ℕ) (rows : List (List ℕ)) (f : ℕ) → IsRow s → length (slice_index_or rows f []) ≡ n → 0 < n
-    → SameFlow (inflow_of rules (row_mesh s n rows) f) (outflow_of rules (row_mesh s n rows) f) (flow_of (moving_at rules s f) (slice_index_or rows f []))
-mesh_flow rules s n rows f row cells some =
+pub mesh_flow : (rules : Settings) (s : Shape) (n : ℕ) (rows : List (List ℕ)) (f : ℕ) → (moves_at rules f).order ≡ 1 → IsRow s → length (slice_index_or rows f []) ≡ n → 0 < n
+    → SameFlow (leaf_inflow rules (row_mesh s n rows) f (row_cell 0)) (leaf_outflow rules (row_mesh s n rows) f (row_cell 0)) (flow_of (moving_at rules s f) (slice_index_or rows f []))
+mesh_flow rules s n rows f first row cells some =
     let m : Mesh = row_mesh s n rows in
     let r : List ℕ = slice_index_or rows f [] in
     let mv : Moving = moving_at rules s f in
     let size : n * 1 * 1 ≡ n = omega arith in
     let last = passing_last mv r n some (sym cells) in
-    let ends_are : flow_through mv.ends (low_face mv r) (high_face mv r) ≡ flow_through (ends_by (wraps s 0) rules s.dims f) (low_face mv r) (high_face mv r) =
+    let ends_are : flow_through mv.ends (low_face mv r) (high_face mv r) ≡ flow_through (ends_by (wraps s 0) rules f) (low_face mv r) (high_face mv r) =
     ap (λ (k : Moving). flow_through k.ends (low_face mv r) (high_face mv r)) (moving_opened rules s f) in
-    let by = by_ends (wraps s 0) rules s.dims f (low_face mv r) (high_face mv r) in
+    let by = by_ends (wraps s 0) rules f (low_face mv r) (high_face mv r) in
     let ins : sum_to (n * 1 * 1) (λ place. cell_inflow rules m f (cell_at m (row_cell 0) place)) ≡ cond (wraps s 0) 0 ((low_face mv r).right + (high_face mv r).left) =
     ap (λ (k : ℕ). sum_to k (λ place. cell_inflow rules m f (cell_at m (row_cell 0) place))) size
     ∙ sum_to_same n (λ place. cell_inflow rules m f (cell_at m (row_cell 0) place)) (λ k. when_gone (step n (wraps s 0) false k) (passing mv r k).right + when_gone (step n (wraps s 0) true k) (passing mv r (k + 1)).left)
-    (λ place inside. ap (cell_inflow rules m f) (cell_is s n rows place inside) ∙ (sides rules s n rows f place row cells inside).inward)
+    (λ place inside. ap (cell_inflow rules m f) (cell_is s n rows place inside) ∙ (sides rules s n rows f place first row cells inside).inward)
     ∙ ends_sum (wraps s 0) n (λ k. (passing mv r k).right) (λ k. (passing mv r k).left) some
     ∙ ap (λ (q : Passing). cond (wraps s 0) 0 ((low_face mv r).right + q.left)) last in
     let outs : sum_to (n * 1 * 1) (λ place. cell_outflow rules m f (cell_at m (row_cell 0) place)) ≡ cond (wraps s 0) 0 ((low_face mv r).left + (high_face mv r).right) =
     ap (λ (k : ℕ). sum_to k (λ place. cell_outflow rules m f (cell_at m (row_cell 0) place))) size
     ∙ sum_to_same n (λ place. cell_outflow rules m f (cell_at m (row_cell 0) place)) (λ k. when_gone (step n (wraps s 0) false k) (passing mv r k).left + when_gone (step n (wraps s 0) true k) (passing mv r (k + 1)).right)
-    (λ place inside. ap (cell_outflow rules m f) (cell_is s n rows place inside) ∙ (sides rules s n rows f place row cells inside).outward)
+    (λ place inside. ap (cell_outflow rules m f) (cell_is s n rows place inside) ∙ (sides rules s n rows f place first row cells inside).outward)
     ∙ ends_sum (wraps s 0) n (λ k. (passing mv r k).left) (λ k. (passing mv r k).right) some
     ∙ ap (λ (q : Passing). cond (wraps s 0) 0 ((low_face mv r).left + q.right)) last in
     record {
@@ -155,34 +159,37 @@ some_cells : (p : Problem) → 0 < slice_index p.cells 0
 some_cells p = omega (arith, p.grid_sound.cells_sound.along1.least)
 
 -- the flows of the stages of a cycle
-stage_flow : (p : Problem) (cycle f n : ℕ) → is_built (settings_of p) ≡ true → f < length p.moves → (m : Mesh) → m ≡ row_mesh p.shape (slice_index p.cells 0) (rows_at (settings_of p) (cycle * p.nstages))
-    → SameFlow (inflow_of (rules_of (settings_of p)) (staged_mesh (rules_of (settings_of p)) m n) f) (outflow_of (rules_of (settings_of p)) (staged_mesh (rules_of (settings_of p)) m n) f) (flow_at (settings_of p) (cycle * p.nstages + n) f)
-stage_flow p cycle f n built inside m is =
+stage_flow : (p : Problem) (cycle f n : ℕ) → is_built (settings_of p) ≡ true → f < length p.moves → (state : State) → state.mesh ≡ row_mesh p.shape (slice_index p.cells 0) (rows_at (settings_of p) (cycle * p.nstages))
+    → SameFlow (leaf_inflow (settings_of p) (staged_to (settings_of p) state n).mesh f (row_cell 0)) (leaf_outflow (settings_of p) (staged_to (settings_of p) state n).mesh f (row_cell 0)) (flow_at (settings_of p) (cycle * p.nstages + n) f)
+stage_flow p cycle f n built inside state is =
     let s = settings_of p in
-    let rules = rules_of s in
     let t = cycle * p.nstages in
     let cells = slice_index p.cells 0 in
-    let row = (one_row p built).row in
-    let mesh : staged_mesh rules m n ≡ row_mesh p.shape cells (rows_at s (t + n)) =
-    ap (λ (k : Mesh). staged_mesh rules k n) is
-    ∙ staged_mesh_is rules p.shape cells (rows_at s t) row (rows_are s t) n
+    let one = one_row p built in
+    let here : f < field_count s = omega (arith, inside, fields_are p) in
+    let mesh : (staged_to s state n).mesh ≡ row_mesh p.shape cells (rows_at s (t + n)) =
+    staged_mesh_is s state p.shape cells (rows_at s t) is one.simple one.row (rows_are s t) n
     ∙ ap (row_mesh p.shape cells) (sym (rows_at_more s t n)) in
-    let flow = mesh_flow rules p.shape cells (rows_at s (t + n)) f row ((rows_are s (t + n)).cells_are f (omega (arith, inside, fields_are p))) (some_cells p) in
-    record { in_is = ap (λ (k : Mesh). inflow_of rules k f) mesh ∙ flow.in_is; out_is = ap (λ (k : Mesh). outflow_of rules k f) mesh ∙ flow.out_is }
+    let flow = mesh_flow s p.shape cells (rows_at s (t + n)) f (one.simple.first f here) one.row ((rows_are s (t + n)).cells_are f here) (some_cells p) in
+    record { in_is = ap (λ (k : Mesh). leaf_inflow s k f (row_cell 0)) mesh ∙ flow.in_is; out_is = ap (λ (k : Mesh). leaf_outflow s k f (row_cell 0)) mesh ∙ flow.out_is }
 
-nothing_yet : (n f : ℕ) → slice_index_or (no_flows n) f (record { inflow = 0; outflow = 0; made = 0; used = 0 }) ≡ (let x : Flow = record { inflow = 0; outflow = 0; made = 0; used = 0 } in x)
+nothing_yet : (n f : ℕ) → slice_index_or (replicate n flow_zero) f flow_zero ≡ flow_zero
 nothing_yet n f = ⊎_elim
-    (λ inside. get_or-replicate n f (let x : Flow = record { inflow = 0; outflow = 0; made = 0; used = 0 } in x) (record { inflow = 0; outflow = 0; made = 0; used = 0 }) inside)
-    (λ past. get_or_past (no_flows n) f (record { inflow = 0; outflow = 0; made = 0; used = 0 }) (omega (arith, past, length-replicate n (let x : Flow = record { inflow = 0; outflow = 0; made = 0; used = 0 } in x))))
+    (λ inside. get_or-replicate n f flow_zero flow_zero inside)
+    (λ past. get_or_past (replicate n flow_zero) f flow_zero (omega (arith, past, length-replicate n flow_zero)))
     (cases_lt f n)
+
+-- over the one leaf
+on_leaf : (m : Mesh) (each : Loc → ℕ) (s : Shape) (n : ℕ) (rows : List (List ℕ)) → m ≡ row_mesh s n rows → sum_over m.leaves each ≡ each (row_cell 0)
+on_leaf m each s n rows is = ap (λ (k : Mesh). sum_over k.leaves each) is ∙ omega arith
 
 -- the kept flows are those of the run
 pub flow_is : (p : Problem) (cycle f : ℕ) → is_built (settings_of p) ≡ true → f < length p.moves → SameFlow (flow_after (settings_of p) cycle f).inflow (flow_after (settings_of p) cycle f).outflow (slice_index_or (flows_at (settings_of p) cycle) f no_flow)
-unfolding run_of flows_at
+unfolding flows_at
 flow_is p zero f built inside =
     let s = settings_of p in
-    let fields = length (rules_of s).fields in
-    let starts = ap (flow_in f) (run_starts s (one_row p built)) ∙ nothing_yet fields f in
+    let fields = field_count s in
+    let starts = ap (of_run (λ (r : Reached). last_flow r f) flow_zero) (run_starts s (one_row p built)) ∙ nothing_yet fields f in
     let kept = table_at fields (λ f. no_flow) f no_flow (omega (arith, inside, fields_are p)) in
     record {
       in_is = ap (λ (x : Flow). x.inflow) starts ∙ sym (ap (λ (b : BoundaryFlow). b.inflow) kept);
@@ -190,18 +197,19 @@ flow_is p zero f built inside =
     }
 flow_is p (suc cycle) f built inside =
     let s = settings_of p in
-    let rules = rules_of s in
     let one = one_row p built in
     let r = runs_to s one cycle in
-    let fields = length rules.fields in
+    let state = r.reached.state in
+    let fields = field_count s in
     let here : f < fields = omega (arith, inside, fields_are p) in
     let t = cycle * p.nstages in
-    let none : Flow = record { inflow = 0; outflow = 0; made = 0; used = 0 } in
-    let goes_on = ap (flow_in f) (run_goes_on s cycle r.state one r.runs) ∙ table_at fields (cycle_flow rules r.state.mesh) f none here in
+    let goes_on = ap (of_run (λ (x : Reached). last_flow x f) flow_zero) (run_goes_on s cycle r.reached one r.runs) ∙ table_at fields (cycle_flow s (kernel_of s) state) f flow_zero here in
     let kept = table_at fields (λ f. flow_over p.nstages (λ n. flow_at s (t + n) f)) f no_flow here in
-    let stage = λ (n : ℕ). stage_flow p cycle f n built inside r.state.mesh r.mesh_is in
-    let ins = over_range p.nstages (λ n. inflow_of rules (staged_mesh rules r.state.mesh n) f) ∙ sum_to_same p.nstages (λ n. inflow_of rules (staged_mesh rules r.state.mesh n) f) (λ n. (flow_at s (t + n) f).inflow) (λ n below. (stage n).in_is) in
-    let outs = over_range p.nstages (λ n. outflow_of rules (staged_mesh rules r.state.mesh n) f) ∙ sum_to_same p.nstages (λ n. outflow_of rules (staged_mesh rules r.state.mesh n) f) (λ n. (flow_at s (t + n) f).outflow) (λ n below. (stage n).out_is) in
+    let stage = λ (n : ℕ). stage_flow p cycle f n built inside state r.mesh_is in
+    let ins = on_leaf state.mesh (λ l. (leaf_flow s (kernel_of s) state f l).inflow) p.shape (slice_index p.cells 0) (rows_at s t) r.mesh_is
+    ∙ sum_to_same p.nstages (λ n. leaf_inflow s (staged_to s state n).mesh f (row_cell 0)) (λ n. (flow_at s (t + n) f).inflow) (λ n below. (stage n).in_is) in
+    let outs = on_leaf state.mesh (λ l. (leaf_flow s (kernel_of s) state f l).outflow) p.shape (slice_index p.cells 0) (rows_at s t) r.mesh_is
+    ∙ sum_to_same p.nstages (λ n. leaf_outflow s (staged_to s state n).mesh f (row_cell 0)) (λ n. (flow_at s (t + n) f).outflow) (λ n below. (stage n).out_is) in
     record {
       in_is = ap (λ (x : Flow). x.inflow) goes_on ∙ ins ∙ sym (ap (λ (b : BoundaryFlow). b.inflow) kept);
       out_is = ap (λ (x : Flow). x.outflow) goes_on ∙ outs ∙ sym (ap (λ (b : BoundaryFlow). b.outflow) kept);

@@ -12,10 +12,10 @@ use Rattle.dense_model.specs.declared.flows.BoundaryFlow.{BoundaryFlow}
 use Rattle.dense_model.specs.declared.row_stage.Passing.{Passing}
 use Rattle.dense_model.specs.declared.row_stage.Ends.{Ends}
 use Rattle.dense_model.specs.declared.row_stage.Ends.TheVariants.{Joined, Apart}
-use Rattle.dense_model.specs.Sums.{sum_to, table}
+use Rattle.mesh_rules.specs.Sums.{sum_to, table}
+use Rattle.mesh_rules.specs.Fields.{field_count}
 use Rattle.dense_model.specs.Rows.{IsReady, RowState, high_face, low_face, row_next, rows_later}
 use Rattle.dense_model.specs.Flows.{IsSmall, both_flows, field_flow, flow_of, flow_over, flow_through, flows_later, flows_more, no_flow, no_row}
-use Rattle.dense_model.specs.OfProblem.{rules_of}
 use Rattle.dense_model.specs.RowRun.{IsKept, IsRunAt, flow_at, flows_at, moving_at, rows_at, states_of}
 use Rattle.dense_model.proofs.CycleSteps.{same_item}
 use Rattle.dense_model.proofs.FieldBounds.{fields_are}
@@ -148,15 +148,15 @@ flows_one_more n rows =
 -- at the start nothing has passed
 pub flows_start : (p : Problem) → replicate (length p.moves) no_flow ≡ flows_at (settings_of p) 0
 unfolding flows_at
-flows_start p = ap (λ (n : ℕ). replicate n no_flow) (sym (fields_are p)) ∙ replicate_table (length (rules_of (settings_of p)).fields) no_flow
+flows_start p = ap (λ (n : ℕ). replicate n no_flow) (sym (fields_are p)) ∙ replicate_table (field_count (settings_of p)) no_flow
 
-count_at : (p : Settings) (cycle : ℕ) → length (flows_at p cycle) ≡ length (rules_of p).fields
+count_at : (p : Settings) (cycle : ℕ) → length (flows_at p cycle) ≡ field_count p
 unfolding flows_at
-count_at p zero = length-map-range_with_len (λ f. no_flow) 0 (length (rules_of p).fields)
-count_at p (suc cycle) = length-map-range_with_len (λ f. flow_over p.nstages (λ n. flow_at p (cycle * p.nstages + n) f)) 0 (length (rules_of p).fields)
+count_at p zero = length-map-range_with_len (λ f. no_flow) 0 (field_count p)
+count_at p (suc cycle) = length-map-range_with_len (λ f. flow_over p.nstages (λ n. flow_at p (cycle * p.nstages + n) f)) 0 (field_count p)
 
-count_states : (p : Settings) (rows : List (List ℕ)) → length (states_of p rows) ≡ length (rules_of p).fields
-count_states p rows = length-map-range_with_len (λ f. (let r : RowState = record { moving = moving_at (rules_of p) p.shape f; cells = slice_index_or rows f [] } in r)) 0 (length (rules_of p).fields)
+count_states : (p : Settings) (rows : List (List ℕ)) → length (states_of p rows) ≡ field_count p
+count_states p rows = length-map-range_with_len (λ f. (let r : RowState = record { moving = moving_at p p.shape f; cells = slice_index_or rows f [] } in r)) 0 (field_count p)
 
 pub as_many_flows : (p : Problem) (cycle : ℕ) (rows : List RowState) (flows : List BoundaryFlow) → IsKept (settings_of p) cycle rows flows → length flows ≡ length rows
 as_many_flows p cycle rows flows kept =
@@ -176,10 +176,10 @@ flow_over_same n g h same =
     parts_same a b c d e f = cc
 
 -- the flow of a field's row among the states
-state_flow : (p : Settings) (rows : List (List ℕ)) (f : ℕ) → f < length (rules_of p).fields → field_flow (states_of p rows) f ≡ flow_of (moving_at (rules_of p) p.shape f) (slice_index_or rows f [])
+state_flow : (p : Settings) (rows : List (List ℕ)) (f : ℕ) → f < field_count p → field_flow (states_of p rows) f ≡ flow_of (moving_at p p.shape f) (slice_index_or rows f [])
 state_flow p rows f inside =
-    let state : ℕ → RowState = λ f. record { moving = moving_at (rules_of p) p.shape f; cells = slice_index_or rows f [] } in
-    ap (λ (r : RowState). flow_of r.moving r.cells) (table_at (length (rules_of p).fields) state f no_row inside)
+    let state : ℕ → RowState = λ f. record { moving = moving_at p p.shape f; cells = slice_index_or rows f [] } in
+    ap (λ (r : RowState). flow_of r.moving r.cells) (table_at (field_count p) state f no_row inside)
 
 -- the flows of the next cycle
 pub flows_next : (p : Problem) (cycle : ℕ) (rows : List RowState) → IsRunAt (settings_of p) cycle rows → flows_later p.nstages rows ≡ flows_at (settings_of p) (cycle + 1)
@@ -187,7 +187,7 @@ unfolding flows_later flows_at
 flows_next p cycle rows at =
     let s = settings_of p in
     let t = cycle * p.nstages in
-    let fields = length (rules_of s).fields in
+    let fields = field_count s in
     let e : suc cycle ≡ cycle + 1 = omega arith in
     ap (flows_later p.nstages) at.rows_are
     ∙ ap (λ (n : ℕ). table n (λ f. flow_over p.nstages (λ k. field_flow (rows_later k (states_of s (rows_at s t))) f))) (count_states s (rows_at s t))

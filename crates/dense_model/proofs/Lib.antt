@@ -1,15 +1,3 @@
-pub mod Looks
-pub mod Portions
-pub mod Flips
-pub mod Pays
-pub mod Grids
-pub mod Lattices
-pub mod LeafSums
-pub mod Adjacent
-mod Conditions
-pub mod Balances
-pub mod Conserves
-pub mod NextTree
 mod RowFacts
 mod RowSteps
 mod ProblemFacts

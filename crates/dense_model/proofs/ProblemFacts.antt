@@ -1,17 +1,14 @@
 -- What the rules of a problem say of a field and of a face.
-use Rattle.std.proofs.Common.{◌≡◌, ℕ, zero, suc, ◌*◌, ◌/◌, ◌^◌, ◌<◌, ℤ, pos, negsuc, Bool, true, false, cond, not, ◌&&◌, Some, List, [], ◌∷◌, length, map, take, refl, sym, ap, ◌∙◌, arith}
+use Rattle.std.proofs.Common.{◌≡◌, ℕ, zero, suc, ◌*◌, ◌/◌, ◌^◌, ◌<◌, Bool, true, false, cond, not, ◌&&◌, Some, List, [], ◌∷◌, length, map, take, refl, sym, ap, ◌∙◌, arith}
 use Rattle.std.specs.Prelude.{slice_get, slice_index}
-use Rattle.std.specs.List.{list_all, slice_index_or, zip}
+use Rattle.std.specs.List.{list_all, slice_index_or}
 use Rattle.package_fields.specs.declared.field.Field.{Field}
-use Rattle.package_fields.specs.declared.flag.Flag.TheVariants.{FillGhost, WithFluxes}
+use Rattle.package_fields.specs.declared.flag.Flag.TheVariants.{FillGhost}
 use Rattle.package_fields.specs.Flags.{has}
 use Rattle.problem_set.specs.Settings.{Settings}
-use Rattle.problem_set.specs.Rates.{upwards, downwards, velocity, right_rate, left_rate}
+use Rattle.problem_set.specs.Rates.{right_rate, left_rate}
 use Rattle.problem_set.specs.declared.entries.Moves.{Moves}
-use Rattle.mesh_num.specs.Rate.{rate}
-use Rattle.dense_model.specs.Rules.{FieldRules, rate_of, rightwards, leftwards, side_number}
-use Rattle.dense_model.specs.Faces.{field_at, entering_at}
-use Rattle.dense_model.specs.OfProblem.{field_of, rules_of}
+use Rattle.mesh_rules.specs.Fields.{entering, field_at, field_count, has_ghosts, moves_at, rates_at, side_number}
 use Rattle.morton_order.specs.declared.space.Shape.{Shape}
 use Rattle.morton_order.specs.Space.{wraps}
 use Rattle.dense_model.specs.declared.row_stage.Edge.{Edge}
@@ -41,60 +38,10 @@ slice_get_at [] i h = absurd (omega (arith, h))
 slice_get_at (x ∷ xs) zero h = (x, refl)
 slice_get_at (x ∷ xs) (suc i) h = slice_get_at xs i (omega (arith, h))
 
-pub paired : {X Y Z : Type 0} (g : X × Y → Z) (xs : List X) (ys : List Y) (i : ℕ) (x : X) (y : Y) (d : Z) → slice_get xs i ≡ Some x → slice_get ys i ≡ Some y → slice_index_or (map g (zip xs ys)) i d ≡ g (x, y)
-paired g [] ys i x y d e f = cc
-paired g (a ∷ xs) [] i x y d e f = cc
-paired g (a ∷ xs) (b ∷ ys) zero x y d e f = let u : a ≡ x = cc in let v : b ≡ y = cc in ap (λ n. g (n, b)) u ∙ ap (λ n. g (x, n)) v
-paired g (a ∷ xs) (b ∷ ys) (suc i) x y d e f = paired g xs ys i x y d e f
-
-pub field_is : (p : Settings) (i : ℕ) (f : Field) (m : Moves) → slice_get p.fields.fields i ≡ Some f → slice_get p.moves i ≡ Some m → field_at (rules_of p) i ≡ field_of (f, m)
-field_is p i f m e h = paired field_of p.fields.fields p.moves i f m _ e h
-
 mapped_at : {X Y : Type 0} (g : X → Y) (xs : List X) (i : ℕ) (x : X) (y : Y) → slice_get xs i ≡ Some x → slice_get (map g xs) i ≡ Some y → g x ≡ y
 mapped_at g [] i x y e h = cc
 mapped_at g (a ∷ xs) zero x y e h = let u : a ≡ x = cc in let v : g a ≡ y = cc in ap g (sym u) ∙ v
 mapped_at g (a ∷ xs) (suc i) x y e h = mapped_at g xs i x y e h
-
--- whether a field has ghost zones
-pub ghosts_are : (p : Settings) (i : ℕ) (b : Bool) → length p.moves ≡ length p.fields.fields → i < length p.moves → slice_get (map (λ (f : Field). has FillGhost f.flags) p.fields.fields) i ≡ Some b → (field_at (rules_of p) i).has_ghosts ≡ b
-ghosts_are p i b same inside e =
-    let f = slice_get_at p.fields.fields i (omega (arith, same, inside)) in
-    let m = slice_get_at p.moves i inside in
-    ap (λ (r : FieldRules). r.has_ghosts) (field_is p i f.0 m.0 f.1 m.1) ∙ mapped_at (λ (g : Field). has FillGhost g.flags) p.fields.fields i f.0 b f.1 e
-
-pub entering_is : (p : Settings) (i : ℕ) → length p.moves ≡ length p.fields.fields → i < length p.moves → (m : Moves) → slice_get p.moves i ≡ Some m → (field_at (rules_of p) i).entering ≡ m.entry
-entering_is p i same inside m e =
-    let f = slice_get_at p.fields.fields i (omega (arith, same, inside)) in
-    ap (λ (r : FieldRules). r.entering) (field_is p i f.0 m f.1 e)
-
-same_up : (z : ℤ) → upwards z ≡ rightwards z
-same_up (pos n) = refl
-same_up (negsuc n) = refl
-
-same_down : (z : ℤ) → downwards z ≡ leftwards z
-same_down (pos n) = refl
-same_down (negsuc n) = refl
-
-pub right_same : (f : Field) (m : Moves) → right_rate f m 0 0 ≡ rate_of (field_of (f, m)) 0 true 0
-right_same f m = ap (λ (v : ℕ). cond (has WithFluxes f.flags) (rate v m.k 0) 0) (same_up (velocity m 0))
-
-pub left_same : (f : Field) (m : Moves) → left_rate f m 0 0 ≡ rate_of (field_of (f, m)) 0 false 0
-left_same f m = ap (λ (v : ℕ). cond (has WithFluxes f.flags) (rate v m.k 0) 0) (same_down (velocity m 0))
-
--- the rates of a field, as the problem tells them
-pub right_is : (p : Settings) (i result : ℕ) → length p.moves ≡ length p.fields.fields → i < length p.moves
-    → ((f : Field) (m : Moves) → slice_get p.fields.fields i ≡ Some f → slice_get p.moves i ≡ Some m → result ≡ right_rate f m 0 0) → result ≡ rate_of (field_at (rules_of p) i) 0 true 0
-right_is p i result same inside says =
-    let f = slice_get_at p.fields.fields i (omega (arith, same, inside)) in
-    let m = slice_get_at p.moves i inside in
-    says f.0 m.0 f.1 m.1 ∙ right_same f.0 m.0 ∙ ap (λ (r : FieldRules). rate_of r 0 true 0) (sym (field_is p i f.0 m.0 f.1 m.1))
-
-pub left_is : (p : Settings) (i result : ℕ) → length p.moves ≡ length p.fields.fields → i < length p.moves
-    → ((f : Field) (m : Moves) → slice_get p.fields.fields i ≡ Some f → slice_get p.moves i ≡ Some m → result ≡ left_rate f m 0 0) → result ≡ rate_of (field_at (rules_of p) i) 0 false 0
-left_is p i result same inside says =
-    let f = slice_get_at p.fields.fields i (omega (arith, same, inside)) in
-    let m = slice_get_at p.moves i inside in
-    says f.0 m.0 f.1 m.1 ∙ left_same f.0 m.0 ∙ ap (λ (r : FieldRules). rate_of r 0 false 0) (sym (field_is p i f.0 m.0 f.1 m.1))
 
 -- an item by its number
 pub got : {X : Type 0} (xs : List X) (i : ℕ) (d : X) → i < length xs → slice_get xs i ≡ Some (slice_index_or xs i d)
@@ -102,29 +49,48 @@ got [] i d h = absurd (omega (arith, h))
 got (x ∷ xs) zero d h = refl
 got (x ∷ xs) (suc i) d h = got xs i d (omega (arith, h))
 
+-- whether a field has ghost zones
+pub ghosts_are : (p : Settings) (i : ℕ) (b : Bool) → i < field_count p → slice_get (map (λ (f : Field). has FillGhost f.flags) p.fields.fields) i ≡ Some b → has_ghosts p i ≡ b
+ghosts_are p i b inside e = mapped_at (λ (g : Field). has FillGhost g.flags) p.fields.fields i (field_at p i) b (got p.fields.fields i _ inside) e
+
+-- the rates of a field, as the problem tells them
+pub right_is : (p : Settings) (i result : ℕ) → length p.moves ≡ length p.fields.fields → i < length p.moves
+    → ((f : Field) (m : Moves) → slice_get p.fields.fields i ≡ Some f → slice_get p.moves i ≡ Some m → result ≡ right_rate f m 0 0) → result ≡ (rates_at p i 0 0).right
+right_is p i result same inside says = says (field_at p i) (moves_at p i) (got p.fields.fields i _ (omega (arith, same, inside))) (got p.moves i _ inside)
+
+pub left_is : (p : Settings) (i result : ℕ) → length p.moves ≡ length p.fields.fields → i < length p.moves
+    → ((f : Field) (m : Moves) → slice_get p.fields.fields i ≡ Some f → slice_get p.moves i ≡ Some m → result ≡ left_rate f m 0 0) → result ≡ (rates_at p i 0 0).left
+left_is p i result same inside says = says (field_at p i) (moves_at p i) (got p.fields.fields i _ (omega (arith, same, inside))) (got p.moves i _ inside)
+
+-- an item that is there does not depend on what stands for one that is not
+pub at_any : {X : Type 0} (xs : List X) (i : ℕ) (d e : X) → i < length xs → slice_index_or xs i d ≡ slice_index_or xs i e
+at_any [] i d e h = absurd (omega (arith, h))
+at_any (x ∷ xs) zero d e h = refl
+at_any (x ∷ xs) (suc i) d e h = at_any xs i d e (omega (arith, h))
+
 pub over_one : (dims amount : ℕ) → amount / 2 ^ (dims * 0) ≡ amount
 over_one dims amount = let none : dims * 0 ≡ 0 = omega arith in ap (λ (n : ℕ). amount / 2 ^ n) none ∙ omega arith
 
 -- what stands outside of a face that lets in
-pub entering_when : (r : FieldRules) (dims amount : ℕ) (high : Bool) → r.has_ghosts ≡ true → amount ≡ slice_index r.entering (side_number 0 high) → amount ≡ entering_at dims r 0 high 0
-entering_when r dims amount high has is = is ∙ sym (over_one dims _) ∙ ap (λ (b : Bool). cond b (slice_index r.entering (side_number 0 high) / 2 ^ (dims * 0)) 0) (sym has)
+pub entering_when : (p : Settings) (i amount : ℕ) (high : Bool) → has_ghosts p i ≡ true → amount ≡ slice_index (moves_at p i).entry (side_number 0 high) → amount ≡ entering p i 0 high 0
+entering_when p i amount high has is = is ∙ sym (over_one p.shape.dims _) ∙ ap (λ (b : Bool). cond b (slice_index (moves_at p i).entry (side_number 0 high) / 2 ^ (p.shape.dims * 0)) 0) (sym has)
 
-pub entering_not : (r : FieldRules) (dims : ℕ) (high : Bool) → r.has_ghosts ≡ false → 0 ≡ entering_at dims r 0 high 0
-entering_not r dims high has = ap (λ (b : Bool). cond b (slice_index r.entering (side_number 0 high) / 2 ^ (dims * 0)) 0) (sym has)
+pub entering_not : (p : Settings) (i : ℕ) (high : Bool) → has_ghosts p i ≡ false → 0 ≡ entering p i 0 high 0
+entering_not p i high has = ap (λ (b : Bool). cond b (slice_index (moves_at p i).entry (side_number 0 high) / 2 ^ (p.shape.dims * 0)) 0) (sym has)
 
 -- how a field moves, from its rates and its edges
-pub joined_is : (p : Settings) (s : Shape) (f right left : ℕ) → wraps s 0 ≡ true → right ≡ rate_of (field_at (rules_of p) f) 0 true 0 → left ≡ rate_of (field_at (rules_of p) f) 0 false 0
-    → (let m : Moving = record { transport = record { right = right; left = left; denominator = p.denominator }; ends = Joined } in m) ≡ moving_at (rules_of p) s f
+pub joined_is : (p : Settings) (s : Shape) (f right left : ℕ) → wraps s 0 ≡ true → right ≡ (rates_at p f 0 0).right → left ≡ (rates_at p f 0 0).left
+    → (let m : Moving = record { transport = record { right = right; left = left; denominator = p.denominator }; ends = Joined } in m) ≡ moving_at p s f
 unfolding moving_at
 joined_is p s f right left wrap r l =
-    let by : ℕ → ℕ → Bool → Moving = λ a b w. record { transport = record { right = a; left = b; denominator = p.denominator }; ends = cond w Joined (Apart (edge_at (rules_of p) s.dims f false) (edge_at (rules_of p) s.dims f true)) } in
-    ap (λ (a : ℕ). by a left true) r ∙ ap (λ (b : ℕ). by (rate_of (field_at (rules_of p) f) 0 true 0) b true) l ∙ ap (by (rate_of (field_at (rules_of p) f) 0 true 0) (rate_of (field_at (rules_of p) f) 0 false 0)) (sym wrap)
+    let by : ℕ → ℕ → Bool → Moving = λ a b w. record { transport = record { right = a; left = b; denominator = p.denominator }; ends = cond w Joined (Apart (edge_at p f false) (edge_at p f true)) } in
+    ap (λ (a : ℕ). by a left true) r ∙ ap (λ (b : ℕ). by (rates_at p f 0 0).right b true) l ∙ ap (by (rates_at p f 0 0).right (rates_at p f 0 0).left) (sym wrap)
 
-pub apart_is : (p : Settings) (s : Shape) (f right left : ℕ) (low high : Edge) → wraps s 0 ≡ false → right ≡ rate_of (field_at (rules_of p) f) 0 true 0 → left ≡ rate_of (field_at (rules_of p) f) 0 false 0
-    → low ≡ edge_at (rules_of p) s.dims f false → high ≡ edge_at (rules_of p) s.dims f true
-    → (let m : Moving = record { transport = record { right = right; left = left; denominator = p.denominator }; ends = Apart low high } in m) ≡ moving_at (rules_of p) s f
+pub apart_is : (p : Settings) (s : Shape) (f right left : ℕ) (low high : Edge) → wraps s 0 ≡ false → right ≡ (rates_at p f 0 0).right → left ≡ (rates_at p f 0 0).left
+    → low ≡ edge_at p f false → high ≡ edge_at p f true
+    → (let m : Moving = record { transport = record { right = right; left = left; denominator = p.denominator }; ends = Apart low high } in m) ≡ moving_at p s f
 unfolding moving_at
 apart_is p s f right left low high wrap r l e g =
-    let by : ℕ → ℕ → Bool → Moving = λ a b w. record { transport = record { right = a; left = b; denominator = p.denominator }; ends = cond w Joined (Apart (edge_at (rules_of p) s.dims f false) (edge_at (rules_of p) s.dims f true)) } in
+    let by : ℕ → ℕ → Bool → Moving = λ a b w. record { transport = record { right = a; left = b; denominator = p.denominator }; ends = cond w Joined (Apart (edge_at p f false) (edge_at p f true)) } in
     let with_ends : Edge → Edge → Moving = λ a b. record { transport = record { right = right; left = left; denominator = p.denominator }; ends = Apart a b } in
-    ap (λ (a : Edge). with_ends a high) e ∙ ap (with_ends (edge_at (rules_of p) s.dims f false)) g ∙ ap (λ (a : ℕ). by a left false) r ∙ ap (λ (b : ℕ). by (rate_of (field_at (rules_of p) f) 0 true 0) b false) l ∙ ap (by (rate_of (field_at (rules_of p) f) 0 true 0) (rate_of (field_at (rules_of p) f) 0 false 0)) (sym wrap)
+    ap (λ (a : Edge). with_ends a high) e ∙ ap (with_ends (edge_at p f false)) g ∙ ap (λ (a : ℕ). by a left false) r ∙ ap (λ (b : ℕ). by (rates_at p f 0 0).right b false) l ∙ ap (by (rates_at p f 0 0).right (rates_at p f 0 0).left) (sym wrap)

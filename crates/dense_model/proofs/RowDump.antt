@@ -1,7 +1,7 @@
 -- The dump of one block along one axis, piece by piece.
 use Rattle.std.proofs.Common.{◌≡◌, ℕ, zero, suc, ◌+◌, ◌-◌, ◌*◌, ◌^◌, ◌<◌, ◌≤◌, Bool, true, false, cond, nat_lt, List, [], ◌∷◌, ◌++◌, length, get_or, take, drop, Some, map, replicate, codes, refl, sym, ap, ◌∙◌, subst, arith, append_assoc}
 use Rattle.std.specs.Prelude.{count_by, slice_get, slice_index}
-use Rattle.std.specs.List.{enumerate_from, flat_map, join_with_byte, slice_index_or, zip}
+use Rattle.std.specs.List.{enumerate_from, flat_map, join_with_byte, slice_index_or}
 use Rattle.std.specs.Fmt.{char_count, decimal, padded_integral, styled_decimal, format_spec}
 use Rattle.std.proofs.lemmas.Bool.Decides.{nat_tests}
 use Rattle.std.proofs.lemmas.Fmt.{decimal_digit}
@@ -12,20 +12,19 @@ use Rattle.morton_order.specs.Space.{root_along}
 use Rattle.package_fields.specs.declared.field.Field.{Field}
 use Rattle.package_fields.specs.Fields.{labels}
 use Rattle.problem_set.specs.declared.problem.Problem.{Problem}
-use Rattle.problem_set.specs.declared.entries.Moves.{Moves}
 use Rattle.problem_set.specs.SettingsOf.{settings_of}
-use Rattle.dense_model.specs.Sums.{table}
-use Rattle.dense_model.specs.Rules.{FieldRules, Rules}
-use Rattle.dense_model.specs.Mesh.{Mesh}
-use Rattle.dense_model.specs.Faces.{field_at}
-use Rattle.dense_model.specs.Texts.{block_text, dump_text, field_text, heading_text, is_zero, line, named, rows, three}
-use Rattle.dense_model.specs.OfProblem.{field_of, is_built, rules_of}
+use Rattle.mesh_rules.specs.Fields.{field_at, field_count}
+use Rattle.mesh_rules.specs.Files.{dump_file_name, in_six_digits}
+use Rattle.mesh_rules.specs.Mesh.{Mesh}
+use Rattle.mesh_rules.specs.Sums.{table}
+use Rattle.mesh_rules.specs.Texts.{block_text, dump_text, field_text, heading_text, is_zero, line, named, rows, three}
+use Rattle.problem_set.specs.Settings.{Settings}
+use Rattle.dense_model.specs.OfProblem.{is_built}
 use Rattle.dense_model.specs.Rows.{RowState}
 use Rattle.dense_model.specs.RowRun.{row_cell, row_mesh, totals_in}
 use Rattle.dense_model.specs.RowTexts.{block_lines, field_lines, fields_lines, first_lines, heading_lines}
-use Rattle.dense_model.specs.RunFiles.{dump_file_name, in_six_digits}
 use Rattle.dense_model.proofs.RowRuns.{AreRows}
-use Rattle.dense_model.proofs.FieldBounds.{fields_are, no_field, rules_at}
+use Rattle.dense_model.proofs.FieldBounds.{fields_are, no_field}
 use Rattle.dense_model.proofs.Built.{one_row}
 
 -- the name
@@ -147,22 +146,17 @@ totals_at (x ∷ rows) zero r h e = ap (λ (s : RowState). s.cells) (sym e)
 totals_at (x ∷ rows) (suc i) r h e = totals_at rows i r (omega (arith, h)) e
 
 -- the pieces are those of the general text
-labels_are : (xs : List Field) (ys : List Moves) → length ys ≡ length xs → flat_map (λ (r : FieldRules). line r.label) (map field_of (zip xs ys)) ≡ flat_map line (labels xs)
-labels_are [] ys e = none ys
-  where
-    none : (zs : List Moves) → flat_map (λ (r : FieldRules). line r.label) (map field_of (zip [] zs)) ≡ []
-    none [] = refl
-    none (z ∷ zs) = refl
-labels_are (x ∷ xs) [] e = absurd (omega (arith, e))
-labels_are (x ∷ xs) (y ∷ ys) e = ap (λ (t : List ℕ). line x.label ++ t) (labels_are xs ys (omega (arith, e)))
+labels_are : (xs : List Field) → flat_map (λ (field : Field). line field.label) xs ≡ flat_map line (labels xs)
+labels_are [] = refl
+labels_are (x ∷ xs) = ap (λ (t : List ℕ). line x.label ++ t) (labels_are xs)
 
 label_of_map : (xs : List Field) (i : ℕ) (d : Field) → i < length xs → slice_index_or (labels xs) i [] ≡ (slice_index_or xs i d).label
 label_of_map [] i d h = absurd (omega (arith, h))
 label_of_map (x ∷ xs) zero d h = refl
 label_of_map (x ∷ xs) (suc i) d h = label_of_map xs i d (omega (arith, h))
 
-label_is : (p : Problem) (f : ℕ) → f < length p.moves → (field_at (rules_of (settings_of p)) f).label ≡ slice_index_or (labels p.fields.fields) f []
-label_is p f inside = ap (λ (r : FieldRules). r.label) (rules_at p f inside) ∙ sym (label_of_map p.fields.fields f no_field (omega (arith, inside, p.fields_sound.same_length)))
+label_is : (p : Problem) (f : ℕ) → f < length p.moves → (field_at (settings_of p) f).label ≡ slice_index_or (labels p.fields.fields) f []
+label_is p f inside = sym (label_of_map p.fields.fields f no_field (omega (arith, inside, p.fields_sound.same_length)))
 
 dims_line : (a b n x y : List ℕ) → (a ++ (b ++ (n ++ x))) ++ y ≡ ((a ++ b) ++ n) ++ (x ++ y)
 dims_line a b n x y = simp append_assoc
@@ -177,16 +171,16 @@ place_text zeros =
     let with_none : List ℕ → List ℕ = λ d. (codes "block " ++ d) ++ (codes " level " ++ d) ++ (codes " at " ++ (d ++ 32 ∷ (d ++ 32 ∷ d))) ++ (codes " zero " ++ zeros) in
     ap with_none (decimal_digit 0 (omega arith)) ∙ sym (append_assoc (codes "block 0 level 0 at 0 0 0") (codes " zero ") zeros)
 
-heading_same : (p : Problem) (rows : List (List ℕ)) (cycle : ℕ) → is_built (settings_of p) ≡ true → heading_text (rules_of (settings_of p)) (row_mesh p.shape (slice_index p.cells 0) rows) cycle ≡ heading_lines (slice_index p.cells 0) (labels p.fields.fields) cycle
+heading_same : (p : Problem) (rows : List (List ℕ)) (cycle : ℕ) → is_built (settings_of p) ≡ true → heading_text (settings_of p) (row_mesh p.shape (slice_index p.cells 0) rows) cycle ≡ heading_lines (slice_index p.cells 0) (labels p.fields.fields) cycle
 unfolding heading_lines first_lines
 heading_same p rows cycle built =
     let s = settings_of p in
     let row = (one_row p built).row in
     let n = slice_index p.cells 0 in
-    let fields = length (rules_of s).fields in
+    let fields = field_count s in
     let first : List ℕ = line (codes "parthenon-whole dump 1") ++ line (codes "cycle " ++ decimal cycle) in
     let with_dims : List ℕ → ℕ → List ℕ → List ℕ → List ℕ = λ dims count names blocks. first ++ line dims ++ line (codes "fields " ++ decimal count) ++ names ++ line (codes "blocks " ++ blocks) in
-    let names : List ℕ = flat_map (λ (r : FieldRules). line r.label) (rules_of s).fields in
+    let names : List ℕ = flat_map (λ (field : Field). line field.label) p.fields.fields in
     let dims : ℕ → ℕ → ℕ → ℕ → List ℕ = λ d r1 r2 r3. named (codes "dims ") d ++ three (codes " cells ") n 1 1 ++ three (codes " root ") r1 r2 r3 in
     let all : List ℕ = codes "dims 1 cells " ++ decimal n ++ codes " 1 1 root 1 1 1" in
     let count : fields ≡ length (labels p.fields.fields) = omega (arith, fields_are p, p.fields_sound.same_length, length-map p.fields.fields (λ (f : Field). f.label)) in
@@ -196,7 +190,7 @@ heading_same p rows cycle built =
     ∙ ap (λ (r : ℕ). with_dims (dims 1 1 1 r) fields names (decimal 1)) row.root3
     ∙ ap (λ (t : List ℕ). with_dims t fields names (decimal 1)) (dims_text n)
     ∙ ap (λ (k : ℕ). with_dims all k names (decimal 1)) count
-    ∙ ap (λ (t : List ℕ). with_dims all (length (labels p.fields.fields)) t (decimal 1)) (labels_are p.fields.fields p.moves p.fields_sound.same_length)
+    ∙ ap (λ (t : List ℕ). with_dims all (length (labels p.fields.fields)) t (decimal 1)) (labels_are p.fields.fields)
     ∙ ap (with_dims all (length (labels p.fields.fields)) (flat_map line (labels p.fields.fields))) (decimal_digit 1 (omega arith))
 
 one_row_of : (n : ℕ) (totals : List ℕ) → length totals ≡ n → rows n 1 totals ≡ line (join_with_byte 32 (map decimal totals))
@@ -206,13 +200,13 @@ one_row_of n totals cells =
     ∙ ap (λ (k : ℕ). line (join_with_byte 32 (map decimal (take n (drop k totals))))) z
     ∙ ap (λ (t : List ℕ). line (join_with_byte 32 (map decimal t))) (take_all n totals (omega (arith, cells)))
 
-field_same : (rules : Rules) (s : Shape) (n : ℕ) (rs : List (List ℕ)) (f : ℕ) (label totals : List ℕ) → length totals ≡ n → (field_at rules f).label ≡ label → field_text rules (row_mesh s n rs) f totals ≡ field_lines label totals
+field_same : (rules : Settings) (s : Shape) (n : ℕ) (rs : List (List ℕ)) (f : ℕ) (label totals : List ℕ) → length totals ≡ n → (field_at rules f).label ≡ label → field_text rules (row_mesh s n rs) f totals ≡ field_lines label totals
 unfolding field_lines
 field_same rules s n rs f label totals cells named_so =
     ap (λ (l : List ℕ). cond (is_zero totals) [] (line (codes "field " ++ l) ++ rows n 1 totals)) named_so
     ∙ ap (λ (t : List ℕ). cond (is_zero totals) [] (line (codes "field " ++ label) ++ t)) (one_row_of n totals cells)
 
-fields_same : (rules : Rules) (s : Shape) (n : ℕ) (all : List (List ℕ)) (names : List (List ℕ)) (first : ℕ) (rs : List (List ℕ)) → ((j : ℕ) → j < length rs → ((field_at rules (first + j)).label ≡ slice_index_or names (first + j) []) × (length (slice_index_or rs j []) ≡ n))
+fields_same : (rules : Settings) (s : Shape) (n : ℕ) (all : List (List ℕ)) (names : List (List ℕ)) (first : ℕ) (rs : List (List ℕ)) → ((j : ℕ) → j < length rs → ((field_at rules (first + j)).label ≡ slice_index_or names (first + j) []) × (length (slice_index_or rs j []) ≡ n))
     → flat_map (λ (q : ℕ × List ℕ). field_text rules (row_mesh s n all) q.0 q.1) (enumerate_from first rs) ≡ fields_lines first names rs
 fields_same rules s n all names first [] each = refl
 fields_same rules s n all names first (r ∷ rs) each =
@@ -224,27 +218,27 @@ fields_same rules s n all names first (r ∷ rs) each =
     (λ j inside. let e : first + suc j ≡ first + 1 + j = omega arith in let next = each (suc j) (omega (arith, inside)) in
     (subst (λ (k : ℕ). (field_at rules k).label ≡ slice_index_or names k []) e next.0, next.1)))
 
-block_same : (p : Problem) (rs : List (List ℕ)) → AreRows (length (rules_of (settings_of p)).fields) (slice_index p.cells 0) rs → block_text (rules_of (settings_of p)) (row_mesh p.shape (slice_index p.cells 0) rs) 0 (row_cell 0) ≡ block_lines (labels p.fields.fields) rs
+block_same : (p : Problem) (rs : List (List ℕ)) → AreRows (field_count (settings_of p)) (slice_index p.cells 0) rs → block_text (settings_of p) (row_mesh p.shape (slice_index p.cells 0) rs) 0 (row_cell 0) ≡ block_lines (labels p.fields.fields) rs
 unfolding block_lines
 block_same p rs are =
     let s = settings_of p in
     let n = slice_index p.cells 0 in
     let m : Mesh = row_mesh p.shape n rs in
-    let fields = length (rules_of s).fields in
+    let fields = field_count s in
     let back : table fields (λ f. slice_index_or rs f []) ≡ rs = sym (fill_by_all (λ f. slice_index_or rs f []) rs fields [] are.fields_are (λ k below. refl)) in
-    let with_totals : List (List ℕ) → List ℕ = λ totals. line (named (codes "block ") 0 ++ named (codes " level ") 0 ++ three (codes " at ") 0 0 0 ++ named (codes " zero ") (count_by is_zero totals)) ++ flat_map (λ (q : ℕ × List ℕ). field_text (rules_of s) m q.0 q.1) (enumerate_from 0 totals) in
+    let with_totals : List (List ℕ) → List ℕ = λ totals. line (named (codes "block ") 0 ++ named (codes " level ") 0 ++ three (codes " at ") 0 0 0 ++ named (codes " zero ") (count_by is_zero totals)) ++ flat_map (λ (q : ℕ × List ℕ). field_text s m q.0 q.1) (enumerate_from 0 totals) in
     ap with_totals back
-    ∙ ap (λ (t : List ℕ). line t ++ flat_map (λ (q : ℕ × List ℕ). field_text (rules_of s) m q.0 q.1) (enumerate_from 0 rs)) (place_text (decimal (count_by is_zero rs)))
+    ∙ ap (λ (t : List ℕ). line t ++ flat_map (λ (q : ℕ × List ℕ). field_text s m q.0 q.1) (enumerate_from 0 rs)) (place_text (decimal (count_by is_zero rs)))
     ∙ ap (λ (t : List ℕ). line (codes "block 0 level 0 at 0 0 0 zero " ++ decimal (count_by is_zero rs)) ++ t)
-    (fields_same (rules_of s) p.shape n rs (labels p.fields.fields) 0 rs
+    (fields_same s p.shape n rs (labels p.fields.fields) 0 rs
     (λ j inside.
     let z : j ≡ 0 + j = omega arith in
     let here : j < length p.moves = omega (arith, inside, are.fields_are, fields_are p) in
-    (subst (λ (k : ℕ). (field_at (rules_of s) k).label ≡ slice_index_or (labels p.fields.fields) k []) z (label_is p j here), are.cells_are j (omega (arith, inside, are.fields_are)))))
+    (subst (λ (k : ℕ). (field_at s k).label ≡ slice_index_or (labels p.fields.fields) k []) z (label_is p j here), are.cells_are j (omega (arith, inside, are.fields_are)))))
 
-pub dump_pieces : (p : Problem) (rs : List (List ℕ)) (cycle : ℕ) → is_built (settings_of p) ≡ true → AreRows (length (rules_of (settings_of p)).fields) (slice_index p.cells 0) rs
-    → heading_lines (slice_index p.cells 0) (labels p.fields.fields) cycle ++ block_lines (labels p.fields.fields) rs ++ line (codes "end") ≡ dump_text (rules_of (settings_of p)) (row_mesh p.shape (slice_index p.cells 0) rs) cycle
+pub dump_pieces : (p : Problem) (rs : List (List ℕ)) (cycle : ℕ) → is_built (settings_of p) ≡ true → AreRows (field_count (settings_of p)) (slice_index p.cells 0) rs
+    → heading_lines (slice_index p.cells 0) (labels p.fields.fields) cycle ++ block_lines (labels p.fields.fields) rs ++ line (codes "end") ≡ dump_text (settings_of p) (row_mesh p.shape (slice_index p.cells 0) rs) cycle
 unfolding dump_text
 dump_pieces p rs cycle built are =
     ap (λ (t : List ℕ). t ++ block_lines (labels p.fields.fields) rs ++ line (codes "end")) (sym (heading_same p rs cycle built))
-    ∙ ap (λ (t : List ℕ). heading_text (rules_of (settings_of p)) (row_mesh p.shape (slice_index p.cells 0) rs) cycle ++ t ++ line (codes "end")) (sym (append-nil (block_text (rules_of (settings_of p)) (row_mesh p.shape (slice_index p.cells 0) rs) 0 (row_cell 0)) ∙ block_same p rs are))
+    ∙ ap (λ (t : List ℕ). heading_text (settings_of p) (row_mesh p.shape (slice_index p.cells 0) rs) cycle ++ t ++ line (codes "end")) (sym (append-nil (block_text (settings_of p) (row_mesh p.shape (slice_index p.cells 0) rs) 0 (row_cell 0)) ∙ block_same p rs are))

@@ -16,12 +16,15 @@ use Rattle.dense_model.specs.declared.row_stage.Passing.{Passing}
 use Rattle.dense_model.specs.declared.row_stage.Ends.{Ends}
 use Rattle.dense_model.specs.declared.row_stage.Ends.TheVariants.{Joined, Apart}
 use Rattle.dense_model.specs.declared.row_stage.Moving.{Moving}
-use Rattle.dense_model.specs.Sums.{sum_to, table}
-use Rattle.dense_model.specs.Rules.{Rules, FaceKind, periodic, outflow, reflecting, inflow, kind_at, rate_of}
-use Rattle.dense_model.specs.Mesh.{Mesh, block_of, cell_at, leaf_number, place_of, stored, totals_on}
-use Rattle.dense_model.specs.Look.{look}
-use Rattle.dense_model.specs.Faces.{cell_across, field_at, flux, flux_by, flux_outside, outside}
-use Rattle.dense_model.specs.Stage.{loss, staged}
+use Rattle.mesh_rules.specs.Faces.{Pair, cell_across, face_pair, face_pair_by, looks_at, own_pair, pair, pair_outside, seen_in, seen_next}
+use Rattle.mesh_rules.specs.Fields.{kind_at, moves_at, outside, rates_at}
+use Rattle.mesh_rules.specs.Look.{look}
+use Rattle.mesh_rules.specs.Mesh.{Mesh, block_of, cell_at, leaf_number, place_of, stored, totals_on}
+use Rattle.mesh_rules.specs.Stage.{loss, staged}
+use Rattle.mesh_rules.specs.Sums.{sum_to, table}
+use Rattle.problem_set.specs.Settings.{Settings}
+use Rattle.problem_set.specs.declared.words.FaceKind.{FaceKind}
+use Rattle.problem_set.specs.declared.words.FaceKind.TheVariants.{Inflow, Outflow, Periodic, Reflecting}
 use Rattle.dense_model.specs.Rows.{low_edge, high_edge, high_end, passing, total_next}
 use Rattle.dense_model.specs.RowRun.{row_cell, edge_by, edge_at, moving_at, row_mesh}
 use Rattle.dense_model.proofs.RowFacts.{passing_inside, passing_last}
@@ -78,27 +81,53 @@ across_is s n rows place high row =
     ap (λ (k : ℕ). k * n * factor s.dims 0 ^ 0) row.root1 ∙ ap (λ (d : ℕ). 1 * n * factor d 0 ^ 0) row.one_axis ∙ omega arith in
     ap (λ (k : ℕ). option_map row_cell (step k (wraps s 0) high place)) along
 
+-- the part of a pair that passes to the right, or to the left
+abbrev pub passed : Bool → Pair → ℕ
+passed right pair = cond right pair.right pair.left
+
+abbrev pub flux : Settings → Mesh → ℕ → Loc → ℕ → Bool → Bool → ℕ
+flux rules m f c axis high right = passed right (face_pair rules m f c axis high)
+
 -- what passes a side of a cell, from the totals here and beyond
-abbrev pub portion_of_donor : Rules → ℕ → Bool → Bool → ℕ → ℕ → ℕ
-portion_of_donor rules f high right here other = portion (cond high (cond right here other) (cond right other here)) (rate_of (field_at rules f) 0 right 0) rules.denominator
+abbrev pub portion_of_donor : Settings → ℕ → Bool → Bool → ℕ → ℕ → ℕ
+portion_of_donor rules f high right here other = portion (cond high (cond right here other) (cond right other here)) (cond right (rates_at rules f 0 0).right (rates_at rules f 0 0).left) rules.denominator
 
-abbrev pub side_flux : Rules → ℕ → ℕ → Bool → Bool → ℕ → Option ℕ → ℕ
-side_flux rules dims f high right here (Some other) = portion_of_donor rules f high right here other
-side_flux rules dims f high right here None = flux_outside (kind_at rules 0 high) (portion_of_donor rules f high right here (outside rules dims f 0 high 0))
+abbrev pub flux_outside : FaceKind → ℕ → ℕ
+flux_outside Reflecting flux = 0
+flux_outside Periodic flux = flux
+flux_outside Outflow flux = flux
+flux_outside Inflow flux = flux
 
-flux_some : (rules : Rules) (s : Shape) (n : ℕ) (rows : List (List ℕ)) (f place other : ℕ) (high right : Bool) → place < n → other < n
-    → flux_by rules (row_mesh s n rows) f (row_cell place) 0 high right (Some (row_cell other)) ≡ portion_of_donor rules f high right (get_or (slice_index_or rows f []) place 0) (get_or (slice_index_or rows f []) other 0)
-flux_some rules s n rows f place other high right inside there =
-    ap (λ (v : ℕ). portion_of_donor rules f high right v (look (row_mesh s n rows) f (row_cell other))) (look_is s n rows f place inside)
-    ∙ ap (λ (v : ℕ). portion_of_donor rules f high right (get_or (slice_index_or rows f []) place 0) v) (look_is s n rows f other there)
+abbrev pub side_flux : Settings → ℕ → Bool → Bool → ℕ → Option ℕ → ℕ
+side_flux rules f high right here (Some other) = portion_of_donor rules f high right here other
+side_flux rules f high right here None = flux_outside (kind_at rules 0 high) (portion_of_donor rules f high right here (outside rules f 0 high 0))
 
-flux_none : (rules : Rules) (s : Shape) (n : ℕ) (rows : List (List ℕ)) (f place : ℕ) (high right : Bool) → place < n
-    → flux_by rules (row_mesh s n rows) f (row_cell place) 0 high right None ≡ flux_outside (kind_at rules 0 high) (portion_of_donor rules f high right (get_or (slice_index_or rows f []) place 0) (outside rules s.dims f 0 high 0))
-flux_none rules s n rows f place high right inside =
-    ap (λ (v : ℕ). flux_outside (kind_at rules 0 high) (portion_of_donor rules f high right v (outside rules s.dims f 0 high 0))) (look_is s n rows f place inside)
+passed_outside : (kind : FaceKind) (right : Bool) (own : Pair) → passed right (pair_outside kind own) ≡ flux_outside kind (passed right own)
+passed_outside Reflecting true own = refl
+passed_outside Reflecting false own = refl
+passed_outside Periodic right own = refl
+passed_outside Outflow right own = refl
+passed_outside Inflow right own = refl
 
-flux_opened : (rules : Rules) (m : Mesh) (f : ℕ) (c : Loc) (axis : ℕ) (high right : Bool) → flux rules m f c axis high right ≡ flux_by rules m f c axis high right (cell_across m c axis high)
-unfolding flux
+-- by the first order a donor counts for itself
+own_first : (rules : Settings) (m : Mesh) (f place : ℕ) (high right : Bool) → (moves_at rules f).order ≡ 1
+    → passed right (own_pair rules m f (row_cell place) 0 high) ≡ portion_of_donor rules f high right (look m f (row_cell place)) (seen_next rules m f (row_cell place) 0 high)
+own_first rules m f place true true first = ap (λ (o : ℕ). (pair o (rates_at rules f 0 0) (looks_at rules m f (row_cell place) 0 true)).right) first
+own_first rules m f place true false first = ap (λ (o : ℕ). (pair o (rates_at rules f 0 0) (looks_at rules m f (row_cell place) 0 true)).left) first
+own_first rules m f place false true first = ap (λ (o : ℕ). (pair o (rates_at rules f 0 0) (looks_at rules m f (row_cell place) 0 false)).right) first
+own_first rules m f place false false first = ap (λ (o : ℕ). (pair o (rates_at rules f 0 0) (looks_at rules m f (row_cell place) 0 false)).left) first
+
+own_is : (rules : Settings) (s : Shape) (n : ℕ) (rows : List (List ℕ)) (f place : ℕ) (high right : Bool) (beyond : Option Loc) → (moves_at rules f).order ≡ 1 → place < n
+    → cell_across (row_mesh s n rows) (row_cell place) 0 high ≡ beyond
+    → passed right (own_pair rules (row_mesh s n rows) f (row_cell place) 0 high) ≡ portion_of_donor rules f high right (get_or (slice_index_or rows f []) place 0) (seen_in rules (row_mesh s n rows) f 0 high 0 beyond)
+own_is rules s n rows f place high right beyond first inside across =
+    let m : Mesh = row_mesh s n rows in
+    own_first rules m f place high right first
+    ∙ ap (λ (v : ℕ). portion_of_donor rules f high right v (seen_next rules m f (row_cell place) 0 high)) (look_is s n rows f place inside)
+    ∙ ap (λ (o : Option Loc). portion_of_donor rules f high right (get_or (slice_index_or rows f []) place 0) (seen_in rules m f 0 high 0 o)) across
+
+flux_opened : (rules : Settings) (m : Mesh) (f : ℕ) (c : Loc) (axis : ℕ) (high right : Bool) → flux rules m f c axis high right ≡ passed right (face_pair_by rules m f c axis high (cell_across m c axis high))
+unfolding face_pair
 flux_opened rules m f c axis high right = refl
 
 -- a step stays on the row
@@ -123,189 +152,194 @@ step_stays : (n place : ℕ) (wrap high : Bool) → place < n → StaysIn n (ste
 step_stays n place wrap true inside = stays_up n place wrap (nat_lt (place + 1) n) inside (is_next place n)
 step_stays n place wrap false inside = stays_down n place wrap (nat_lt 0 place) inside
 
-by_step : (rules : Rules) (s : Shape) (n : ℕ) (rows : List (List ℕ)) (f place : ℕ) (high right : Bool) (o : Option ℕ) → place < n → StaysIn n o
-    → flux_by rules (row_mesh s n rows) f (row_cell place) 0 high right (option_map row_cell o) ≡ side_flux rules s.dims f high right (get_or (slice_index_or rows f []) place 0) (option_map (λ q. get_or (slice_index_or rows f []) q 0) o)
-by_step rules s n rows f place high right None inside there = flux_none rules s n rows f place high right inside
-by_step rules s n rows f place high right (Some q) inside there = flux_some rules s n rows f place q high right inside there
+by_step : (rules : Settings) (s : Shape) (n : ℕ) (rows : List (List ℕ)) (f place : ℕ) (high right : Bool) (o : Option ℕ) → (moves_at rules f).order ≡ 1 → place < n → StaysIn n o
+    → cell_across (row_mesh s n rows) (row_cell place) 0 high ≡ option_map row_cell o
+    → passed right (face_pair_by rules (row_mesh s n rows) f (row_cell place) 0 high (option_map row_cell o)) ≡ side_flux rules f high right (get_or (slice_index_or rows f []) place 0) (option_map (λ q. get_or (slice_index_or rows f []) q 0) o)
+by_step rules s n rows f place high right None first inside there across =
+    passed_outside (kind_at rules 0 high) right (own_pair rules (row_mesh s n rows) f (row_cell place) 0 high)
+    ∙ ap (flux_outside (kind_at rules 0 high)) (own_is rules s n rows f place high right None first inside across)
+by_step rules s n rows f place high right (Some q) first inside there across =
+    own_is rules s n rows f place high right (Some (row_cell q)) first inside across
+    ∙ ap (λ (v : ℕ). portion_of_donor rules f high right (get_or (slice_index_or rows f []) place 0) v) (look_is s n rows f q there)
 
 -- what passes a side of a cell of the row
-pub flux_is : (rules : Rules) (s : Shape) (n : ℕ) (rows : List (List ℕ)) (f place : ℕ) (high right : Bool) → IsRow s → place < n
-    → flux rules (row_mesh s n rows) f (row_cell place) 0 high right ≡ side_flux rules s.dims f high right (get_or (slice_index_or rows f []) place 0) (option_map (λ q. get_or (slice_index_or rows f []) q 0) (step n (wraps s 0) high place))
-flux_is rules s n rows f place high right row inside =
+pub flux_is : (rules : Settings) (s : Shape) (n : ℕ) (rows : List (List ℕ)) (f place : ℕ) (high right : Bool) → (moves_at rules f).order ≡ 1 → IsRow s → place < n
+    → flux rules (row_mesh s n rows) f (row_cell place) 0 high right ≡ side_flux rules f high right (get_or (slice_index_or rows f []) place 0) (option_map (λ q. get_or (slice_index_or rows f []) q 0) (step n (wraps s 0) high place))
+flux_is rules s n rows f place high right first row inside =
     flux_opened rules (row_mesh s n rows) f (row_cell place) 0 high right
-    ∙ ap (λ (o : Option Loc). flux_by rules (row_mesh s n rows) f (row_cell place) 0 high right o) (across_is s n rows place high row)
-    ∙ by_step rules s n rows f place high right (step n (wraps s 0) high place) inside (step_stays n place (wraps s 0) high inside)
+    ∙ ap (λ (o : Option Loc). passed right (face_pair_by rules (row_mesh s n rows) f (row_cell place) 0 high o)) (across_is s n rows place high row)
+    ∙ by_step rules s n rows f place high right (step n (wraps s 0) high place) first inside (step_stays n place (wraps s 0) high inside) (across_is s n rows place high row)
 
 -- an end of the row: what passes it is what passes the side of the cell there
-abbrev transport_at : Rules → ℕ → Transport
-transport_at rules f = record { right = rate_of (field_at rules f) 0 true 0; left = rate_of (field_at rules f) 0 false 0; denominator = rules.denominator }
+abbrev transport_at : Settings → ℕ → Transport
+transport_at rules f = record { right = (rates_at rules f 0 0).right; left = (rates_at rules f 0 0).left; denominator = rules.denominator }
 
-pub record SameLow (rules : Rules) (s : Shape) (f : ℕ) (row : List ℕ) (place : ℕ) : Type 0 where
-  pub right : side_flux rules s.dims f false true (get_or row place 0) (option_map (λ q. get_or row q 0) (step (length row) (wraps s 0) false place)) ≡ (passing (moving_at rules s f) row place).right
-  pub left : side_flux rules s.dims f false false (get_or row place 0) (option_map (λ q. get_or row q 0) (step (length row) (wraps s 0) false place)) ≡ (passing (moving_at rules s f) row place).left
+pub record SameLow (rules : Settings) (s : Shape) (f : ℕ) (row : List ℕ) (place : ℕ) : Type 0 where
+  pub right : side_flux rules f false true (get_or row place 0) (option_map (λ q. get_or row q 0) (step (length row) (wraps s 0) false place)) ≡ (passing (moving_at rules s f) row place).right
+  pub left : side_flux rules f false false (get_or row place 0) (option_map (λ q. get_or row q 0) (step (length row) (wraps s 0) false place)) ≡ (passing (moving_at rules s f) row place).left
 
-pub record SameHigh (rules : Rules) (s : Shape) (f : ℕ) (row : List ℕ) (place : ℕ) : Type 0 where
-  pub right : side_flux rules s.dims f true true (get_or row place 0) (option_map (λ q. get_or row q 0) (step (length row) (wraps s 0) true place)) ≡ (passing (moving_at rules s f) row (place + 1)).right
-  pub left : side_flux rules s.dims f true false (get_or row place 0) (option_map (λ q. get_or row q 0) (step (length row) (wraps s 0) true place)) ≡ (passing (moving_at rules s f) row (place + 1)).left
+pub record SameHigh (rules : Settings) (s : Shape) (f : ℕ) (row : List ℕ) (place : ℕ) : Type 0 where
+  pub right : side_flux rules f true true (get_or row place 0) (option_map (λ q. get_or row q 0) (step (length row) (wraps s 0) true place)) ≡ (passing (moving_at rules s f) row (place + 1)).right
+  pub left : side_flux rules f true false (get_or row place 0) (option_map (λ q. get_or row q 0) (step (length row) (wraps s 0) true place)) ≡ (passing (moving_at rules s f) row (place + 1)).left
 
-low_right_outside : (rules : Rules) (f : ℕ) (kind : FaceKind) (out first : ℕ) → flux_outside kind (portion_of_donor rules f false true first out) ≡ (low_edge (transport_at rules f) (edge_by kind out) first).right
-low_right_outside rules f periodic out first = refl
-low_right_outside rules f outflow out first = refl
-low_right_outside rules f reflecting out first = refl
-low_right_outside rules f inflow out first = refl
+low_right_outside : (rules : Settings) (f : ℕ) (kind : FaceKind) (out first : ℕ) → flux_outside kind (portion_of_donor rules f false true first out) ≡ (low_edge (transport_at rules f) (edge_by kind out) first).right
+low_right_outside rules f Periodic out first = refl
+low_right_outside rules f Outflow out first = refl
+low_right_outside rules f Reflecting out first = refl
+low_right_outside rules f Inflow out first = refl
 
-low_left_outside : (rules : Rules) (f : ℕ) (kind : FaceKind) (out first : ℕ) → flux_outside kind (portion_of_donor rules f false false first out) ≡ (low_edge (transport_at rules f) (edge_by kind out) first).left
-low_left_outside rules f periodic out first = refl
-low_left_outside rules f outflow out first = refl
-low_left_outside rules f reflecting out first = refl
-low_left_outside rules f inflow out first = refl
+low_left_outside : (rules : Settings) (f : ℕ) (kind : FaceKind) (out first : ℕ) → flux_outside kind (portion_of_donor rules f false false first out) ≡ (low_edge (transport_at rules f) (edge_by kind out) first).left
+low_left_outside rules f Periodic out first = refl
+low_left_outside rules f Outflow out first = refl
+low_left_outside rules f Reflecting out first = refl
+low_left_outside rules f Inflow out first = refl
 
-high_right_outside : (rules : Rules) (f : ℕ) (kind : FaceKind) (out last : ℕ) → flux_outside kind (portion_of_donor rules f true true last out) ≡ (high_edge (transport_at rules f) (edge_by kind out) last).right
-high_right_outside rules f periodic out last = refl
-high_right_outside rules f outflow out last = refl
-high_right_outside rules f reflecting out last = refl
-high_right_outside rules f inflow out last = refl
+high_right_outside : (rules : Settings) (f : ℕ) (kind : FaceKind) (out last : ℕ) → flux_outside kind (portion_of_donor rules f true true last out) ≡ (high_edge (transport_at rules f) (edge_by kind out) last).right
+high_right_outside rules f Periodic out last = refl
+high_right_outside rules f Outflow out last = refl
+high_right_outside rules f Reflecting out last = refl
+high_right_outside rules f Inflow out last = refl
 
-high_left_outside : (rules : Rules) (f : ℕ) (kind : FaceKind) (out last : ℕ) → flux_outside kind (portion_of_donor rules f true false last out) ≡ (high_edge (transport_at rules f) (edge_by kind out) last).left
-high_left_outside rules f periodic out last = refl
-high_left_outside rules f outflow out last = refl
-high_left_outside rules f reflecting out last = refl
-high_left_outside rules f inflow out last = refl
+high_left_outside : (rules : Settings) (f : ℕ) (kind : FaceKind) (out last : ℕ) → flux_outside kind (portion_of_donor rules f true false last out) ≡ (high_edge (transport_at rules f) (edge_by kind out) last).left
+high_left_outside rules f Periodic out last = refl
+high_left_outside rules f Outflow out last = refl
+high_left_outside rules f Reflecting out last = refl
+high_left_outside rules f Inflow out last = refl
 
 -- the ends by whether the row is joined
-abbrev pub ends_by : Bool → Rules → ℕ → ℕ → Ends
-ends_by wrap rules dims f = cond wrap Joined (Apart (edge_at rules dims f false) (edge_at rules dims f true))
+abbrev pub ends_by : Bool → Settings → ℕ → Ends
+ends_by wrap rules f = cond wrap Joined (Apart (edge_at rules f false) (edge_at rules f true))
 
-pub moving_opened : (rules : Rules) (s : Shape) (f : ℕ) → moving_at rules s f ≡ record { transport = transport_at rules f; ends = ends_by (wraps s 0) rules s.dims f }
+pub moving_opened : (rules : Settings) (s : Shape) (f : ℕ) → moving_at rules s f ≡ record { transport = transport_at rules f; ends = ends_by (wraps s 0) rules f }
 unfolding moving_at
 moving_opened rules s f = refl
 
-abbrev moving_by : Bool → Rules → ℕ → ℕ → Moving
-moving_by wrap rules dims f = record { transport = transport_at rules f; ends = ends_by wrap rules dims f }
+abbrev moving_by : Bool → Settings → ℕ → Moving
+moving_by wrap rules f = record { transport = transport_at rules f; ends = ends_by wrap rules f }
 
-pub record AtFirst (wrap : Bool) (rules : Rules) (dims f : ℕ) (row : List ℕ) : Type 0 where
-  pub right : side_flux rules dims f false true (get_or row 0 0) (option_map (λ q. get_or row q 0) (cond wrap (Some (length row - 1)) None)) ≡ (passing (moving_by wrap rules dims f) row 0).right
-  pub left : side_flux rules dims f false false (get_or row 0 0) (option_map (λ q. get_or row q 0) (cond wrap (Some (length row - 1)) None)) ≡ (passing (moving_by wrap rules dims f) row 0).left
+pub record AtFirst (wrap : Bool) (rules : Settings) (f : ℕ) (row : List ℕ) : Type 0 where
+  pub right : side_flux rules f false true (get_or row 0 0) (option_map (λ q. get_or row q 0) (cond wrap (Some (length row - 1)) None)) ≡ (passing (moving_by wrap rules f) row 0).right
+  pub left : side_flux rules f false false (get_or row 0 0) (option_map (λ q. get_or row q 0) (cond wrap (Some (length row - 1)) None)) ≡ (passing (moving_by wrap rules f) row 0).left
 
-at_first : (wrap : Bool) (rules : Rules) (dims f : ℕ) (row : List ℕ) → AtFirst wrap rules dims f row
-at_first true rules dims f row = record { right = refl; left = refl }
-at_first false rules dims f row = record {
-  right = low_right_outside rules f (kind_at rules 0 false) (outside rules dims f 0 false 0) (get_or row 0 0);
-  left = low_left_outside rules f (kind_at rules 0 false) (outside rules dims f 0 false 0) (get_or row 0 0);
+at_first : (wrap : Bool) (rules : Settings) (f : ℕ) (row : List ℕ) → AtFirst wrap rules f row
+at_first true rules f row = record { right = refl; left = refl }
+at_first false rules f row = record {
+  right = low_right_outside rules f (kind_at rules 0 false) (outside rules f 0 false 0) (get_or row 0 0);
+  left = low_left_outside rules f (kind_at rules 0 false) (outside rules f 0 false 0) (get_or row 0 0);
 }
 
-pub record AtLast (wrap : Bool) (rules : Rules) (dims f : ℕ) (row : List ℕ) : Type 0 where
-  pub right : side_flux rules dims f true true (get_or row (length row - 1) 0) (option_map (λ q. get_or row q 0) (cond wrap (Some 0) None)) ≡ (high_end (transport_at rules f) (ends_by wrap rules dims f) (get_or row 0 0) (get_or row (length row - 1) 0)).right
-  pub left : side_flux rules dims f true false (get_or row (length row - 1) 0) (option_map (λ q. get_or row q 0) (cond wrap (Some 0) None)) ≡ (high_end (transport_at rules f) (ends_by wrap rules dims f) (get_or row 0 0) (get_or row (length row - 1) 0)).left
+pub record AtLast (wrap : Bool) (rules : Settings) (f : ℕ) (row : List ℕ) : Type 0 where
+  pub right : side_flux rules f true true (get_or row (length row - 1) 0) (option_map (λ q. get_or row q 0) (cond wrap (Some 0) None)) ≡ (high_end (transport_at rules f) (ends_by wrap rules f) (get_or row 0 0) (get_or row (length row - 1) 0)).right
+  pub left : side_flux rules f true false (get_or row (length row - 1) 0) (option_map (λ q. get_or row q 0) (cond wrap (Some 0) None)) ≡ (high_end (transport_at rules f) (ends_by wrap rules f) (get_or row 0 0) (get_or row (length row - 1) 0)).left
 
-at_last : (wrap : Bool) (rules : Rules) (dims f : ℕ) (row : List ℕ) → AtLast wrap rules dims f row
-at_last true rules dims f row = record { right = refl; left = refl }
-at_last false rules dims f row = record {
-  right = high_right_outside rules f (kind_at rules 0 true) (outside rules dims f 0 true 0) (get_or row (length row - 1) 0);
-  left = high_left_outside rules f (kind_at rules 0 true) (outside rules dims f 0 true 0) (get_or row (length row - 1) 0);
+at_last : (wrap : Bool) (rules : Settings) (f : ℕ) (row : List ℕ) → AtLast wrap rules f row
+at_last true rules f row = record { right = refl; left = refl }
+at_last false rules f row = record {
+  right = high_right_outside rules f (kind_at rules 0 true) (outside rules f 0 true 0) (get_or row (length row - 1) 0);
+  left = high_left_outside rules f (kind_at rules 0 true) (outside rules f 0 true 0) (get_or row (length row - 1) 0);
 }
 
 -- the low side of a cell
-low_side : (wrap : Bool) (rules : Rules) (dims f : ℕ) (row : List ℕ) (place : ℕ) (right : Bool) → place < length row
-    → side_flux rules dims f false right (get_or row place 0) (option_map (λ q. get_or row q 0) (step (length row) wrap false place)) ≡ cond right (passing (moving_by wrap rules dims f) row place).right (passing (moving_by wrap rules dims f) row place).left
-low_side wrap rules dims f row place right inside =
+low_side : (wrap : Bool) (rules : Settings) (f : ℕ) (row : List ℕ) (place : ℕ) (right : Bool) → place < length row
+    → side_flux rules f false right (get_or row place 0) (option_map (λ q. get_or row q 0) (step (length row) wrap false place)) ≡ cond right (passing (moving_by wrap rules f) row place).right (passing (moving_by wrap rules f) row place).left
+low_side wrap rules f row place right inside =
     ⊎_elim
     (λ (some : 0 < place).
     let yes : nat_lt 0 place ≡ true = grind (arith, nat_tests) in
-    ap (λ (b : Bool). side_flux rules dims f false right (get_or row place 0) (option_map (λ q. get_or row q 0) (cond b (Some (place - 1)) (cond wrap (Some (length row - 1)) None)))) yes
+    ap (λ (b : Bool). side_flux rules f false right (get_or row place 0) (option_map (λ q. get_or row q 0) (cond b (Some (place - 1)) (cond wrap (Some (length row - 1)) None)))) yes
     ∙ inside_low right
-    ∙ ap (λ (p : Passing). cond right p.right p.left) (sym (passing_inside (moving_by wrap rules dims f) row place some inside)))
+    ∙ ap (λ (p : Passing). cond right p.right p.left) (sym (passing_inside (moving_by wrap rules f) row place some inside)))
     (λ (none : place ≤ 0).
     let zero_is : 0 ≡ place = omega arith in
-    subst (λ (k : ℕ). side_flux rules dims f false right (get_or row k 0) (option_map (λ q. get_or row q 0) (step (length row) wrap false k)) ≡ cond right (passing (moving_by wrap rules dims f) row k).right (passing (moving_by wrap rules dims f) row k).left) zero_is (first right))
+    subst (λ (k : ℕ). side_flux rules f false right (get_or row k 0) (option_map (λ q. get_or row q 0) (step (length row) wrap false k)) ≡ cond right (passing (moving_by wrap rules f) row k).right (passing (moving_by wrap rules f) row k).left) zero_is (first right))
     (cases_lt 0 place)
   where
-    inside_low : (r : Bool) → portion_of_donor rules f false r (get_or row place 0) (get_or row (place - 1) 0) ≡ cond r (portion (get_or row (place - 1) 0) (rate_of (field_at rules f) 0 true 0) rules.denominator) (portion (get_or row place 0) (rate_of (field_at rules f) 0 false 0) rules.denominator)
+    inside_low : (r : Bool) → portion_of_donor rules f false r (get_or row place 0) (get_or row (place - 1) 0) ≡ cond r (portion (get_or row (place - 1) 0) (rates_at rules f 0 0).right rules.denominator) (portion (get_or row place 0) (rates_at rules f 0 0).left rules.denominator)
     inside_low true = refl
     inside_low false = refl
 
-    first : (r : Bool) → side_flux rules dims f false r (get_or row 0 0) (option_map (λ q. get_or row q 0) (cond wrap (Some (length row - 1)) None)) ≡ cond r (passing (moving_by wrap rules dims f) row 0).right (passing (moving_by wrap rules dims f) row 0).left
-    first true = (at_first wrap rules dims f row).right
-    first false = (at_first wrap rules dims f row).left
+    first : (r : Bool) → side_flux rules f false r (get_or row 0 0) (option_map (λ q. get_or row q 0) (cond wrap (Some (length row - 1)) None)) ≡ cond r (passing (moving_by wrap rules f) row 0).right (passing (moving_by wrap rules f) row 0).left
+    first true = (at_first wrap rules f row).right
+    first false = (at_first wrap rules f row).left
 
 -- the high side of a cell
-high_side : (wrap : Bool) (rules : Rules) (dims f : ℕ) (row : List ℕ) (place : ℕ) (right : Bool) → place < length row
-    → side_flux rules dims f true right (get_or row place 0) (option_map (λ q. get_or row q 0) (step (length row) wrap true place)) ≡ cond right (passing (moving_by wrap rules dims f) row (place + 1)).right (passing (moving_by wrap rules dims f) row (place + 1)).left
-high_side wrap rules dims f row place right inside =
+high_side : (wrap : Bool) (rules : Settings) (f : ℕ) (row : List ℕ) (place : ℕ) (right : Bool) → place < length row
+    → side_flux rules f true right (get_or row place 0) (option_map (λ q. get_or row q 0) (step (length row) wrap true place)) ≡ cond right (passing (moving_by wrap rules f) row (place + 1)).right (passing (moving_by wrap rules f) row (place + 1)).left
+high_side wrap rules f row place right inside =
     ⊎_elim
     (λ (more : place + 1 < length row).
     let yes : nat_lt (place + 1) (length row) ≡ true = grind (arith, nat_tests) in
     let back : place + 1 - 1 ≡ place = omega arith in
-    ap (λ (b : Bool). side_flux rules dims f true right (get_or row place 0) (option_map (λ q. get_or row q 0) (cond b (Some (place + 1)) (cond wrap (Some 0) None)))) yes
+    ap (λ (b : Bool). side_flux rules f true right (get_or row place 0) (option_map (λ q. get_or row q 0) (cond b (Some (place + 1)) (cond wrap (Some 0) None)))) yes
     ∙ inside_high right
-    ∙ ap (λ (k : ℕ). cond right (portion (get_or row k 0) (rate_of (field_at rules f) 0 true 0) rules.denominator) (portion (get_or row (place + 1) 0) (rate_of (field_at rules f) 0 false 0) rules.denominator)) (sym back)
-    ∙ ap (λ (p : Passing). cond right p.right p.left) (sym (passing_inside (moving_by wrap rules dims f) row (place + 1) (omega arith) more)))
+    ∙ ap (λ (k : ℕ). cond right (portion (get_or row k 0) (rates_at rules f 0 0).right rules.denominator) (portion (get_or row (place + 1) 0) (rates_at rules f 0 0).left rules.denominator)) (sym back)
+    ∙ ap (λ (p : Passing). cond right p.right p.left) (sym (passing_inside (moving_by wrap rules f) row (place + 1) (omega arith) more)))
     (λ (done : length row ≤ place + 1).
     let no : nat_lt (place + 1) (length row) ≡ false = grind (arith, nat_tests) in
     let back : place ≡ length row - 1 = omega arith in
-    ap (λ (b : Bool). side_flux rules dims f true right (get_or row place 0) (option_map (λ q. get_or row q 0) (cond b (Some (place + 1)) (cond wrap (Some 0) None)))) no
-    ∙ ap (λ (k : ℕ). side_flux rules dims f true right (get_or row k 0) (option_map (λ q. get_or row q 0) (cond wrap (Some 0) None))) back
+    ap (λ (b : Bool). side_flux rules f true right (get_or row place 0) (option_map (λ q. get_or row q 0) (cond b (Some (place + 1)) (cond wrap (Some 0) None)))) no
+    ∙ ap (λ (k : ℕ). side_flux rules f true right (get_or row k 0) (option_map (λ q. get_or row q 0) (cond wrap (Some 0) None))) back
     ∙ last right
-    ∙ ap (λ (p : Passing). cond right p.right p.left) (sym (passing_last (moving_by wrap rules dims f) row (place + 1) (omega arith) (omega arith))))
+    ∙ ap (λ (p : Passing). cond right p.right p.left) (sym (passing_last (moving_by wrap rules f) row (place + 1) (omega arith) (omega arith))))
     (cases_lt (place + 1) (length row))
   where
-    inside_high : (r : Bool) → portion_of_donor rules f true r (get_or row place 0) (get_or row (place + 1) 0) ≡ cond r (portion (get_or row place 0) (rate_of (field_at rules f) 0 true 0) rules.denominator) (portion (get_or row (place + 1) 0) (rate_of (field_at rules f) 0 false 0) rules.denominator)
+    inside_high : (r : Bool) → portion_of_donor rules f true r (get_or row place 0) (get_or row (place + 1) 0) ≡ cond r (portion (get_or row place 0) (rates_at rules f 0 0).right rules.denominator) (portion (get_or row (place + 1) 0) (rates_at rules f 0 0).left rules.denominator)
     inside_high true = refl
     inside_high false = refl
 
-    last : (r : Bool) → side_flux rules dims f true r (get_or row (length row - 1) 0) (option_map (λ q. get_or row q 0) (cond wrap (Some 0) None)) ≡ cond r (high_end (transport_at rules f) (ends_by wrap rules dims f) (get_or row 0 0) (get_or row (length row - 1) 0)).right (high_end (transport_at rules f) (ends_by wrap rules dims f) (get_or row 0 0) (get_or row (length row - 1) 0)).left
-    last true = (at_last wrap rules dims f row).right
-    last false = (at_last wrap rules dims f row).left
+    last : (r : Bool) → side_flux rules f true r (get_or row (length row - 1) 0) (option_map (λ q. get_or row q 0) (cond wrap (Some 0) None)) ≡ cond r (high_end (transport_at rules f) (ends_by wrap rules f) (get_or row 0 0) (get_or row (length row - 1) 0)).right (high_end (transport_at rules f) (ends_by wrap rules f) (get_or row 0 0) (get_or row (length row - 1) 0)).left
+    last true = (at_last wrap rules f row).right
+    last false = (at_last wrap rules f row).left
 
-pub same_low : (rules : Rules) (s : Shape) (f : ℕ) (row : List ℕ) (place : ℕ) → place < length row → SameLow rules s f row place
+pub same_low : (rules : Settings) (s : Shape) (f : ℕ) (row : List ℕ) (place : ℕ) → place < length row → SameLow rules s f row place
 same_low rules s f row place inside = record {
-  right = low_side (wraps s 0) rules s.dims f row place true inside ∙ ap (λ (m : Moving). (passing m row place).right) (sym (moving_opened rules s f));
-  left = low_side (wraps s 0) rules s.dims f row place false inside ∙ ap (λ (m : Moving). (passing m row place).left) (sym (moving_opened rules s f));
+  right = low_side (wraps s 0) rules f row place true inside ∙ ap (λ (m : Moving). (passing m row place).right) (sym (moving_opened rules s f));
+  left = low_side (wraps s 0) rules f row place false inside ∙ ap (λ (m : Moving). (passing m row place).left) (sym (moving_opened rules s f));
 }
 
-pub same_high : (rules : Rules) (s : Shape) (f : ℕ) (row : List ℕ) (place : ℕ) → place < length row → SameHigh rules s f row place
+pub same_high : (rules : Settings) (s : Shape) (f : ℕ) (row : List ℕ) (place : ℕ) → place < length row → SameHigh rules s f row place
 same_high rules s f row place inside = record {
-  right = high_side (wraps s 0) rules s.dims f row place true inside ∙ ap (λ (m : Moving). (passing m row (place + 1)).right) (sym (moving_opened rules s f));
-  left = high_side (wraps s 0) rules s.dims f row place false inside ∙ ap (λ (m : Moving). (passing m row (place + 1)).left) (sym (moving_opened rules s f));
+  right = high_side (wraps s 0) rules f row place true inside ∙ ap (λ (m : Moving). (passing m row (place + 1)).right) (sym (moving_opened rules s f));
+  left = high_side (wraps s 0) rules f row place false inside ∙ ap (λ (m : Moving). (passing m row (place + 1)).left) (sym (moving_opened rules s f));
 }
 
 -- what a cell gains and loses along one axis
 pub one_axis : (d : ℕ) (each : ℕ → ℕ) → d ≡ 1 → sum_to d each ≡ each 0
 one_axis d each e = ap (λ (k : ℕ). sum_to k each) e ∙ omega arith
 
-pub width_is : (rules : Rules) (s : Shape) (n f place : ℕ) (r : List ℕ) → length r ≡ n → (high right : Bool) → side_flux rules s.dims f high right (get_or r place 0) (option_map (λ q. get_or r q 0) (step n (wraps s 0) high place)) ≡ side_flux rules s.dims f high right (get_or r place 0) (option_map (λ q. get_or r q 0) (step (length r) (wraps s 0) high place))
-width_is rules s n f place r cells high right = ap (λ (k : ℕ). side_flux rules s.dims f high right (get_or r place 0) (option_map (λ q. get_or r q 0) (step k (wraps s 0) high place))) (sym cells)
+pub width_is : (rules : Settings) (s : Shape) (n f place : ℕ) (r : List ℕ) → length r ≡ n → (high right : Bool) → side_flux rules f high right (get_or r place 0) (option_map (λ q. get_or r q 0) (step n (wraps s 0) high place)) ≡ side_flux rules f high right (get_or r place 0) (option_map (λ q. get_or r q 0) (step (length r) (wraps s 0) high place))
+width_is rules s n f place r cells high right = ap (λ (k : ℕ). side_flux rules f high right (get_or r place 0) (option_map (λ q. get_or r q 0) (step k (wraps s 0) high place))) (sym cells)
 
 -- the total of a cell after the stage
-pub staged_is : (rules : Rules) (s : Shape) (n : ℕ) (rows : List (List ℕ)) (f place : ℕ) → IsRow s → length (slice_index_or rows f []) ≡ n → place < n
+pub staged_is : (rules : Settings) (s : Shape) (n : ℕ) (rows : List (List ℕ)) (f place : ℕ) → (moves_at rules f).order ≡ 1 → IsRow s → length (slice_index_or rows f []) ≡ n → place < n
     → staged rules (row_mesh s n rows) f (row_cell place) ≡ total_next (moving_at rules s f) (slice_index_or rows f []) place
-staged_is rules s n rows f place row cells inside =
+staged_is rules s n rows f place first row cells inside =
     let m : Mesh = row_mesh s n rows in
     let r : List ℕ = slice_index_or rows f [] in
     let here : place < length r = omega (arith, cells, inside) in
     let low = same_low rules s f r place here in
     let high = same_high rules s f r place here in
     let width = width_is rules s n f place r cells in
-    let low_right = flux_is rules s n rows f place false true row inside ∙ width false true ∙ low.right in
-    let low_left = flux_is rules s n rows f place false false row inside ∙ width false false ∙ low.left in
-    let high_right = flux_is rules s n rows f place true true row inside ∙ width true true ∙ high.right in
-    let high_left = flux_is rules s n rows f place true false row inside ∙ width true false ∙ high.left in
+    let low_right = flux_is rules s n rows f place false true first row inside ∙ width false true ∙ low.right in
+    let low_left = flux_is rules s n rows f place false false first row inside ∙ width false false ∙ low.left in
+    let high_right = flux_is rules s n rows f place true true first row inside ∙ width true true ∙ high.right in
+    let high_left = flux_is rules s n rows f place true false first row inside ∙ width true false ∙ high.left in
     let gains = one_axis s.dims (λ axis. flux rules m f (row_cell place) axis false true + flux rules m f (row_cell place) axis true false) row.one_axis in
     let losses = one_axis s.dims (λ axis. flux rules m f (row_cell place) axis false false + flux rules m f (row_cell place) axis true true) row.one_axis in
     let kept = stored_is s n rows f place inside in
     omega (arith, low_right, low_left, high_right, high_left, gains, losses, kept)
 
 -- what a cell loses in a stage
-pub loss_is : (rules : Rules) (s : Shape) (n : ℕ) (rows : List (List ℕ)) (f place : ℕ) → IsRow s → length (slice_index_or rows f []) ≡ n → place < n
+pub loss_is : (rules : Settings) (s : Shape) (n : ℕ) (rows : List (List ℕ)) (f place : ℕ) → (moves_at rules f).order ≡ 1 → IsRow s → length (slice_index_or rows f []) ≡ n → place < n
     → loss rules (row_mesh s n rows) f (row_cell place) ≡ (passing (moving_at rules s f) (slice_index_or rows f []) place).left + (passing (moving_at rules s f) (slice_index_or rows f []) (place + 1)).right
-loss_is rules s n rows f place row cells inside =
+loss_is rules s n rows f place first row cells inside =
     let m : Mesh = row_mesh s n rows in
     let r : List ℕ = slice_index_or rows f [] in
     let here : place < length r = omega (arith, cells, inside) in
     let low = same_low rules s f r place here in
     let high = same_high rules s f r place here in
     let width = width_is rules s n f place r cells in
-    let low_left = flux_is rules s n rows f place false false row inside ∙ width false false ∙ low.left in
-    let high_right = flux_is rules s n rows f place true true row inside ∙ width true true ∙ high.right in
+    let low_left = flux_is rules s n rows f place false false first row inside ∙ width false false ∙ low.left in
+    let high_right = flux_is rules s n rows f place true true first row inside ∙ width true true ∙ high.right in
     let losses = one_axis s.dims (λ axis. flux rules m f (row_cell place) axis false false + flux rules m f (row_cell place) axis true true) row.one_axis in
     omega (arith, low_left, high_right, losses)

@@ -3,7 +3,7 @@ use Rattle.std.proofs.Common.{◌≡◌, ℕ, zero, suc, ◌+◌, ◌-◌, ◌<�
 use Rattle.std.proofs.lemmas.Bool.{cases_lt}
 use Rattle.std.proofs.lemmas.List.FromFn.{fill_by_all, map-range_with_len_more}
 use Rattle.mesh_num.specs.Portion.{portion}
-use Rattle.dense_model.specs.Sums.{sum_over, sum_to, table}
+use Rattle.mesh_rules.specs.Sums.{sum_over, sum_to, table}
 use Rattle.dense_model.specs.declared.row_stage.Transport.{Transport}
 use Rattle.dense_model.specs.declared.row_stage.Passing.{Passing}
 use Rattle.dense_model.specs.declared.row_stage.Edge.TheVariants.{Closed, Open}

@@ -16,10 +16,11 @@ use Rattle.problem_set.specs.Settings.{Settings}
 use Rattle.problem_set.specs.SettingsOf.{settings_of}
 use Rattle.problem_set.specs.Rates.{box_total, field_inflow, span, stage_inflow}
 use Rattle.problem_set.specs.SoundEntries.{IsBox, greatest_total}
-use Rattle.dense_model.specs.Sums.{sum_over, sum_to, table}
-use Rattle.dense_model.specs.Run.{StartBox, holds}
+use Rattle.mesh_rules.specs.Fields.{field_count}
+use Rattle.mesh_rules.specs.Opening.{holds}
+use Rattle.mesh_rules.specs.Sums.{sum_over, sum_to, table}
 use Rattle.dense_model.specs.Rows.{IsReady, RowState, row_next, row_staged, rows_later, row_sum, sum_all}
-use Rattle.dense_model.specs.OfProblem.{box_of, is_built, rules_of}
+use Rattle.dense_model.specs.OfProblem.{is_built}
 use Rattle.dense_model.specs.RowRun.{moving_at, opening_rows, row_cell, rows_at, staged_rows, states_of}
 use Rattle.dense_model.proofs.RowFacts.{within_of}
 use Rattle.dense_model.proofs.RowMesh.{table_same}
@@ -41,7 +42,7 @@ sum_by_is g xs d (suc n) h =
 abbrev pub inflow_most : Problem → ℕ
 inflow_most p = stage_inflow p.shape.dims p.size p.faces p.fields.fields p.moves
 
-all_come_in : (p : Problem) → is_built (settings_of p) ≡ true → sum_to (length p.moves) (λ f. comes_in (moving_at (rules_of (settings_of p)) p.shape f)) ≤ inflow_most p
+all_come_in : (p : Problem) → is_built (settings_of p) ≡ true → sum_to (length p.moves) (λ f. comes_in (moving_at (settings_of p) p.shape f)) ≤ inflow_most p
 all_come_in p built =
     let pairs = zip p.fields.fields p.moves in
     let same = p.fields_sound.same_length in
@@ -49,8 +50,8 @@ all_come_in p built =
     let g : Field × Moves → ℕ = λ q. field_inflow p.shape.dims p.size p.faces q.0 q.1 in
     let whole = ap (sum_by g) (take_all (length p.moves) pairs (omega (arith, count))) in
     let each = sum_by_is g pairs (no_field, no_moves) (length p.moves) (omega (arith, count)) in
-    let le = sum_to_le (length p.moves) (λ f. comes_in (moving_at (rules_of (settings_of p)) p.shape f)) (λ f. g (slice_index_or pairs f (no_field, no_moves)))
-    (λ f inside. subst (λ (q : Field × Moves). comes_in (moving_at (rules_of (settings_of p)) p.shape f) ≤ g q) (sym (zip_at p.fields.fields p.moves f no_field no_moves (omega (arith, inside, same)) inside)) (comes_in-le p f built inside)) in
+    let le = sum_to_le (length p.moves) (λ f. comes_in (moving_at (settings_of p) p.shape f)) (λ f. g (slice_index_or pairs f (no_field, no_moves)))
+    (λ f inside. subst (λ (q : Field × Moves). comes_in (moving_at (settings_of p) p.shape f) ≤ g q) (sym (zip_at p.fields.fields p.moves f no_field no_moves (omega (arith, inside, same)) inside)) (comes_in-le p f built inside)) in
     omega (arith, whole, each, le)
 
 -- the sum of all rows
@@ -61,16 +62,16 @@ sum_all_is fields rows count =
 -- a stage adds at most what may come in
 stage_adds : (p : Problem) (t : ℕ) → is_built (settings_of p) ≡ true → sum_all (rows_at (settings_of p) (suc t)) ≤ sum_all (rows_at (settings_of p) t) + inflow_most p
 stage_adds p t built =
-    let rules = rules_of (settings_of p) in
+    let rules = settings_of p in
     let rows = rows_at (settings_of p) t in
     let are = rows_are (settings_of p) t in
     let fields = fields_are p in
     let cells_some = p.grid_sound.cells_sound.along1.least in
-    let next = ap sum_all (rows_at_next (settings_of p) t) ∙ sum_table (length rules.fields) (λ f. row_staged (moving_at rules p.shape f) (slice_index_or rows f [])) row_sum in
-    let le = sum_to_le (length rules.fields) (λ f. row_sum (row_staged (moving_at rules p.shape f) (slice_index_or rows f []))) (λ f. row_sum (slice_index_or rows f []) + comes_in (moving_at rules p.shape f))
+    let next = ap sum_all (rows_at_next (settings_of p) t) ∙ sum_table (field_count rules) (λ f. row_staged (moving_at rules p.shape f) (slice_index_or rows f [])) row_sum in
+    let le = sum_to_le (field_count rules) (λ f. row_sum (row_staged (moving_at rules p.shape f) (slice_index_or rows f []))) (λ f. row_sum (slice_index_or rows f []) + comes_in (moving_at rules p.shape f))
     (λ f inside. sum-staged-le (moving_at rules p.shape f) (slice_index_or rows f []) (within_of (moving_at rules p.shape f) (proper_at p f built (omega (arith, fields, inside)))) (omega (arith, are.cells_are f inside, cells_some))) in
-    let split = sum_to_both (length rules.fields) (λ f. row_sum (slice_index_or rows f [])) (λ f. comes_in (moving_at rules p.shape f)) in
-    let now = sum_all_is (length rules.fields) rows are.fields_are in
+    let split = sum_to_both (field_count rules) (λ f. row_sum (slice_index_or rows f [])) (λ f. comes_in (moving_at rules p.shape f)) in
+    let now = sum_all_is (field_count rules) rows are.fields_are in
     let come = ap (λ (n : ℕ). sum_to n (λ f. comes_in (moving_at rules p.shape f))) fields in
     omega (arith, next, le, split, now, come, all_come_in p built)
 
@@ -114,7 +115,7 @@ sum_under false n g = no_sum n
 
 -- what a box puts into a cell
 abbrev box_part : ProblemBox → ℕ → ℕ → ℕ
-box_part b f place = cond (nat_eq b.field f && holds (box_of b) (row_cell place)) b.amount 0
+box_part b f place = cond (nat_eq b.field f && holds b (row_cell place)) b.amount 0
 
 lone_span : (size lo hi : List ℕ) (axis : ℕ) → slice_index size axis ≡ 1 → slice_index lo axis ≤ slice_index hi axis → slice_index hi axis < slice_index size axis → span lo hi axis ≡ 1
 lone_span size lo hi axis one order within = omega (arith, one, order, within)
@@ -146,7 +147,7 @@ sum_twice fields n f g = sum_to_same fields (λ i. sum_to n (λ j. f i j + g i j
 
 -- what some boxes put into a cell
 abbrev pub boxes_part : List ProblemBox → ℕ → ℕ → ℕ
-boxes_part bs f place = sum_over (map box_of bs) (λ (b : StartBox). cond (b.field == f && holds b (row_cell place)) b.amount 0)
+boxes_part bs f place = sum_over bs (λ (b : ProblemBox). cond (b.field == f && holds b (row_cell place)) b.amount 0)
 
 boxes_fit : (size : List ℕ) (fields n count : ℕ) (bs : List ProblemBox) → slice_index size 1 ≡ 1 → slice_index size 2 ≡ 1 → ((i : ℕ) → (d : ProblemBox) → i < length bs → IsBox size count (slice_index_or bs i d)) → sum_to fields (λ f. sum_to n (λ place. boxes_part bs f place)) ≤ sum_by box_total bs
 boxes_fit size fields n count [] one2 one3 all = omega (arith, sum_to_same fields (λ f. sum_to n (λ place. 0)) (λ f. 0) (λ f inside. no_sum n), no_sum fields)
@@ -158,7 +159,7 @@ all_boxes p i d inside = All-get_or (IsBox p.size (length p.moves)) p.boxes i d 
 
 opening_fits : (p : Problem) → is_built (settings_of p) ≡ true → sum_all (opening_rows (settings_of p)) ≤ sum_by box_total p.boxes
 opening_fits p built =
-    let fields = length (rules_of (settings_of p)).fields in
+    let fields = field_count (settings_of p) in
     let n = slice_index p.cells 0 in
     let rows = sum_table fields (λ f. table n (λ place. boxes_part p.boxes f place)) row_sum in
     let each = sum_to_same fields (λ f. row_sum (table n (λ place. boxes_part p.boxes f place))) (λ f. sum_to n (λ place. boxes_part p.boxes f place)) (λ f inside. sum_table n (λ place. boxes_part p.boxes f place) (λ (t : ℕ). t)) in
@@ -176,24 +177,24 @@ sum_at p built (suc t) = omega (arith, sum_at p built t, stage_adds p t built, m
 pub sum_within : (p : Problem) → is_built (settings_of p) ≡ true → (t : ℕ) → t ≤ p.nlim * p.nstages → sum_all (rows_at (settings_of p) t) ≤ greatest_total
 sum_within p built t within = omega (arith, sum_at p built t, mul-le-mul_left (inflow_most p) within, p.totals_fit)
 
-row-le : (p : Problem) (t f : ℕ) → f < length (rules_of (settings_of p)).fields → row_sum (slice_index_or (rows_at (settings_of p) t) f []) ≤ sum_all (rows_at (settings_of p) t)
+row-le : (p : Problem) (t f : ℕ) → f < field_count (settings_of p) → row_sum (slice_index_or (rows_at (settings_of p) t) f []) ≤ sum_all (rows_at (settings_of p) t)
 row-le p t f inside =
-    let fields = length (rules_of (settings_of p)).fields in
+    let fields = field_count (settings_of p) in
     omega (arith, sum_all_is fields (rows_at (settings_of p) t) (rows_are (settings_of p) t).fields_are, sum_to_part fields (λ g. row_sum (slice_index_or (rows_at (settings_of p) t) g [])) f inside)
 
 -- each row is ready for a stage
 pub ready_at : (p : Problem) → is_built (settings_of p) ≡ true → (t : ℕ) → t ≤ p.nlim * p.nstages → All IsReady (states_of (settings_of p) (rows_at (settings_of p) t))
 ready_at p built t within =
     let rows = rows_at (settings_of p) t in
-    let fields = length (rules_of (settings_of p)).fields in
-    let none : RowState = record { moving = moving_at (rules_of (settings_of p)) p.shape 0; cells = [] } in
-    let count = length-map-range_with_len (λ f. (let r : RowState = record { moving = moving_at (rules_of (settings_of p)) p.shape f; cells = slice_index_or rows f [] } in r)) 0 fields in
+    let fields = field_count (settings_of p) in
+    let none : RowState = record { moving = moving_at (settings_of p) p.shape 0; cells = [] } in
+    let count = length-map-range_with_len (λ f. (let r : RowState = record { moving = moving_at (settings_of p) p.shape f; cells = slice_index_or rows f [] } in r)) 0 fields in
     All-from_get_or IsReady (states_of (settings_of p) rows) none
     (λ f inside.
     let here : f < fields = omega (arith, inside, count) in
     let row : List ℕ = slice_index_or rows f [] in
     let cells = (rows_are (settings_of p) t).cells_are f here in
-    let is = table_at fields (λ f. (let r : RowState = record { moving = moving_at (rules_of (settings_of p)) p.shape f; cells = slice_index_or rows f [] } in r)) f none here in
+    let is = table_at fields (λ f. (let r : RowState = record { moving = moving_at (settings_of p) p.shape f; cells = slice_index_or rows f [] } in r)) f none here in
     subst IsReady (sym is) (record {
       proper = proper_at p f built (omega (arith, here, fields_are p));
       some = omega (arith, cells, p.grid_sound.cells_sound.along1.least);
@@ -205,11 +206,11 @@ map_map g f [] = refl
 map_map {X} {Y} {Z} g f (x ∷ xs) = ap (λ (zs : List Z). g (f x) ∷ zs) (map_map g f xs)
 
 -- a stage of the rows is the next rows
-next_states : (p : Settings) (rows : List (List ℕ)) → map row_next (states_of p rows) ≡ states_of p (staged_rows (rules_of p) p.shape rows)
+next_states : (p : Settings) (rows : List (List ℕ)) → map row_next (states_of p rows) ≡ states_of p (staged_rows p p.shape rows)
 next_states p rows =
-    let fields = length (rules_of p).fields in
-    let staged : ℕ → List ℕ = λ f. row_staged (moving_at (rules_of p) p.shape f) (slice_index_or rows f []) in
-    let state : ℕ → List ℕ → RowState = λ f cells. record { moving = moving_at (rules_of p) p.shape f; cells = cells } in
+    let fields = field_count p in
+    let staged : ℕ → List ℕ = λ f. row_staged (moving_at p p.shape f) (slice_index_or rows f []) in
+    let state : ℕ → List ℕ → RowState = λ f cells. record { moving = moving_at p p.shape f; cells = cells } in
     map_map row_next (λ f. state f (slice_index_or rows f [])) (range_with_len 0 fields)
     ∙ table_same fields (λ f. state f (staged f)) (λ f. state f (slice_index_or (table fields staged) f [])) (λ f inside. ap (state f) (sym (table_at fields staged f [] inside)))
 

@@ -6,7 +6,7 @@ use Rattle.dense_model.specs.declared.row_stage.Passing.{Passing}
 use Rattle.dense_model.specs.declared.row_stage.Ends.{Ends}
 use Rattle.dense_model.specs.declared.row_stage.Ends.TheVariants.{Joined, Apart}
 use Rattle.dense_model.specs.declared.row_stage.Moving.{Moving}
-use Rattle.dense_model.specs.Sums.{sum_to, table}
+use Rattle.mesh_rules.specs.Sums.{sum_to, table}
 use Rattle.dense_model.specs.Rows.{RowState, high_face, low_face, rows_later}
 
 -- nothing came in and nothing went out, as at ends that are joined

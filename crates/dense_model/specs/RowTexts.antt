@@ -2,7 +2,7 @@
 use Rattle.std.specs.Prelude.{ℕ, ◌+◌, cond, List, [], ◌∷◌, ◌++◌, length, map, codes, count_by}
 use Rattle.std.specs.List.{flat_map, join_with_byte, slice_index_or}
 use Rattle.std.specs.Fmt.{decimal}
-use Rattle.dense_model.specs.Texts.{is_zero, line}
+use Rattle.mesh_rules.specs.Texts.{is_zero, line}
 
 -- the lines before the labels
 unfoldable pub first_lines : ℕ → ℕ → ℕ → List ℕ

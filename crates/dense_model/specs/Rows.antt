@@ -2,7 +2,7 @@
 use Rattle.std.specs.Prelude.{◌==◌, ℕ, zero, suc, ◌+◌, ◌-◌, ◌≤◌, ◌<◌, ◌^◌, cond, List, length, map, slice_index, All}
 use Rattle.std.specs.List.{range_with_len}
 use Rattle.mesh_num.specs.Portion.{portion}
-use Rattle.dense_model.specs.Sums.{sum_over}
+use Rattle.mesh_rules.specs.Sums.{sum_over}
 use Rattle.dense_model.specs.declared.row_stage.Transport.{Transport}
 use Rattle.dense_model.specs.declared.row_stage.Passing.{Passing}
 use Rattle.dense_model.specs.declared.row_stage.Edge.{Edge}

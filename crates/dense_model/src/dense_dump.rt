@@ -7,8 +7,8 @@ ghost use Rattle.std.specs.Fmt.{decimal};
 ghost use Rattle.package_fields.specs.Fields.{labels};
 ghost use Rattle.problem_set.specs.SettingsOf.{settings_of};
 ghost use Rattle.dense_model.specs.RowRun.{totals_in};
-ghost use Rattle.dense_model.specs.Texts.{is_zero, line};
-ghost use Rattle.dense_model.specs.RunFiles.{dump_file_name, is_dumped};
+ghost use Rattle.mesh_rules.specs.Files.{dump_file_name, is_dumped};
+ghost use Rattle.mesh_rules.specs.Texts.{is_zero, line};
 ghost use Rattle.dense_model.specs.RowTexts.{first_lines, heading_lines, field_lines, fields_lines, block_lines};
 
 use crate::field_row::FieldRow;

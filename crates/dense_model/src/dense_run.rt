@@ -4,7 +4,7 @@ ghost use Rattle.dense_model.specs.OfProblem.{is_built};
 ghost use Rattle.dense_model.specs.Rows.{IsReady, row_next, rows_later, row_sum, sum_all};
 ghost use Rattle.dense_model.specs.RowRun.{states_of, opening_rows, empty_states, totals_in};
 ghost use Rattle.dense_model.specs.Flows.{flows_later, no_flow};
-ghost use Rattle.dense_model.specs.RunFiles.{dump_after, dumps_at, files_until, flow_after, leaves_after, total_after};
+ghost use Rattle.dense_model.specs.RunFiles.{dump_after, dumps_at, dumps_until, flow_after, leaves_after, total_after};
 
 use crate::dense_dump;
 use crate::fault::DenseFault;
@@ -103,7 +103,7 @@ impl<'a> DenseRun<'a> {
 
     /// The files so far, in order: the dumps of the cycles that have one.
     pub fn files(&self, prefix: &str) -> Result<Files, NoMemory>
-        ensures { IfOk result (λ files. map name_and_bytes files ≡ files_until self.now.problem prefix.now self.now.cycle) }
+        ensures { IfOk result (λ files. map name_and_bytes files ≡ dumps_until self.now.problem prefix.now self.now.cycle) }
     {
         let alloc = *self.rows.allocator();
         let mut run = restart(alloc, self.problem)?;

@@ -3,9 +3,8 @@
 ghost use Rattle.std.specs.Prelude.{◌≡◌, ◌<◌, not, length};
 ghost use Rattle.std.specs.List.{list_all};
 ghost use Rattle.problem_set.specs.SettingsOf.{settings_of};
-ghost use Rattle.dense_model.specs.OfProblem.{is_built, is_first_order, is_plain, may_be_absent, rules_of};
-ghost use Rattle.dense_model.specs.Rules.{side_number};
-ghost use Rattle.dense_model.specs.Faces.{field_at, entering_at};
+ghost use Rattle.dense_model.specs.OfProblem.{is_built, is_first_order, is_plain, may_be_absent};
+ghost use Rattle.mesh_rules.specs.Fields.{entering, side_number};
 ghost use Rattle.dense_model.specs.RowRun.{edge_at, moving_at};
 
 use crate::row_stage::{Edge, Ends, Moving, Transport};
@@ -61,7 +60,7 @@ fn are_always_there(fields: &Registry) -> bool
 /// How a field moves along the row.
 pub fn moving_at(problem: &Problem, field: usize) -> Moving
     requires field { field < length problem.now.moves }
-    ensures { result ≡ moving_at (rules_of (settings_of problem.now)) problem.now.shape field }
+    ensures { result ≡ moving_at (settings_of problem.now) problem.now.shape field }
 {
     let rates = problem.rates(field as u32, 0, 0);
     let transport = Transport {
@@ -80,7 +79,7 @@ pub fn moving_at(problem: &Problem, field: usize) -> Moving
 /// A face of the domain, as a field meets it.
 fn edge_at(problem: &Problem, field: usize, high: bool) -> Edge
     requires field { field < length problem.now.moves }
-    ensures { result ≡ edge_at (rules_of (settings_of problem.now)) problem.now.shape.dims field high }
+    ensures { result ≡ edge_at (settings_of problem.now) field high }
 {
     let kind = problem.faces.as_slice()[side_of(high)];
     match kind {
@@ -101,7 +100,7 @@ fn side_of(high: bool) -> usize
 /// What stands outside of a face where it lets in: nothing of a field with no ghost zones.
 fn entering_at(problem: &Problem, field: usize, high: bool) -> u64
     requires field { field < length problem.now.moves }
-    ensures { result ≡ entering_at problem.now.shape.dims (field_at (rules_of (settings_of problem.now)) field) 0 high 0 }
+    ensures { result ≡ entering (settings_of problem.now) field 0 high 0 }
 {
     if problem.fields.has(field as u32, Flag::FillGhost) {
         let moves = problem.moves.as_slice()[field];

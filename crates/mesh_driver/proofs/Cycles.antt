@@ -5,7 +5,8 @@ use Rattle.std.specs.Option.{ForSome}
 use Rattle.std.proofs.lemmas.List.{map-append, append-nil}
 use Rattle.std.proofs.lemmas.List.Elements.{filter-append}
 use Rattle.problem_set.specs.Settings.{Settings}
-use Rattle.dense_model.specs.RunFiles.{RunAt, dump_after, dump_file_name, is_dumped}
+use Rattle.dense_model.specs.RunFiles.{RunAt, dump_after}
+use Rattle.mesh_rules.specs.Files.{dump_file_name, is_dumped}
 use Rattle.mesh_outside.specs.declared.files.Gained.{Gained}
 use Rattle.mesh_outside.specs.Gained.{IsClosed, Gains, GainsPrefix}
 use Rattle.mesh_driver.specs.Files.{whole_file, dump_of, files_at, files_of}

@@ -1,7 +1,8 @@
 -- The files that a run of a problem leaves in a depot, and how it ends.
 use Rattle.std.specs.Prelude.{ℕ, true, cond, List, [], ◌∷◌, map}
 use Rattle.problem_set.specs.Settings.{Settings}
-use Rattle.dense_model.specs.RunFiles.{dump_after, dump_file_name, is_dumped, leaves_after, total_after, files_of as texts_of}
+use Rattle.dense_model.specs.RunFiles.{dump_after, dumps_of, leaves_after, total_after}
+use Rattle.mesh_rules.specs.Files.{dump_file_name, is_dumped}
 use Rattle.mesh_outside.specs.declared.files.Gained.{Gained}
 use Rattle.mesh_outside.specs.Gained.{file_with}
 use Rattle.mesh_driver.specs.declared.run.RunEnd.{RunEnd}
@@ -10,9 +11,9 @@ use Rattle.mesh_driver.specs.declared.run.RunEnd.{RunEnd}
 abbrev pub whole_file : List ℕ × List ℕ → Gained
 whole_file f = file_with f.0 f.1 true
 
--- all files of a problem's run, finished
+-- the dumps of a problem's run, finished
 abbrev pub files_of : Settings → List ℕ → List Gained
-files_of p prefix = map whole_file (texts_of p prefix)
+files_of p prefix = map whole_file (dumps_of p prefix)
 
 -- the finished dump of a cycle
 abbrev pub dump_of : Settings → List ℕ → ℕ → Gained

@@ -1,6 +1,6 @@
 use Rattle.std.proofs.Common.{◌≡◌, take}
 use Rattle.std.specs.Prelude.{count_by}
-use Rattle.dense_model.specs.Texts.{is_zero}
+use Rattle.mesh_rules.specs.Texts.{is_zero}
 use Rattle.dense_model.specs.Rows.{RowState}
 use Rattle.dense_model.proofs.dense_dump.count_empty.Given as goal
 

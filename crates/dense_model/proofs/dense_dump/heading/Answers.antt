@@ -4,7 +4,7 @@ use Rattle.std.specs.List.{flat_map}
 use Rattle.std.proofs.lemmas.List.{length-map}
 use Rattle.package_fields.specs.declared.field.Field.{Field}
 use Rattle.package_fields.specs.Fields.{labels}
-use Rattle.dense_model.specs.Texts.{line}
+use Rattle.mesh_rules.specs.Texts.{line}
 use Rattle.dense_model.specs.RowTexts.{first_lines}
 use Rattle.dense_model.proofs.RowDump.{heading_is}
 use Rattle.dense_model.proofs.dense_dump.heading.Goals as goal

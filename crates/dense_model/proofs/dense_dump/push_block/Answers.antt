@@ -4,7 +4,7 @@ use Rattle.std.specs.String.{string_bytes}
 use Rattle.package_fields.specs.Fields.{labels}
 use Rattle.dense_model.specs.RowRun.{totals_in}
 use Rattle.dense_model.specs.RowTexts.{fields_lines}
-use Rattle.dense_model.specs.Texts.{line}
+use Rattle.mesh_rules.specs.Texts.{line}
 use Rattle.dense_model.proofs.RowDump.{block_pushes, block_lines_are}
 use Rattle.dense_model.proofs.dense_dump.push_block.Goals as goal
 

@@ -3,7 +3,7 @@ use Rattle.std.specs.List.{join_with_byte}
 use Rattle.std.specs.Fmt.{decimal}
 use Rattle.std.specs.String.{string_bytes}
 use Rattle.std.proofs.lemmas.List.{append-nil}
-use Rattle.dense_model.specs.Texts.{line}
+use Rattle.mesh_rules.specs.Texts.{line}
 use Rattle.dense_model.proofs.RowDump.{field_lines_empty, field_lines_filled, field_pushes}
 use Rattle.dense_model.proofs.dense_dump.push_field.Goals as goal
 

@@ -2,7 +2,7 @@ use Rattle.std.proofs.Common.{◌≡◌, ◌++◌, take}
 use Rattle.std.specs.List.{flat_map}
 use Rattle.std.specs.String.{string_bytes}
 use Rattle.package_fields.specs.Fields.{labels}
-use Rattle.dense_model.specs.Texts.{line}
+use Rattle.mesh_rules.specs.Texts.{line}
 use Rattle.dense_model.proofs.dense_dump.push_labels.Given as goal
 
 abbrev pub invariant-loop-field : goal.invariant-loop-field

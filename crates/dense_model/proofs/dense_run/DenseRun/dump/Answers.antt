@@ -6,7 +6,7 @@ use Rattle.package_fields.specs.Fields.{labels}
 use Rattle.dense_model.specs.Rows.{RowState}
 use Rattle.dense_model.specs.RowRun.{totals_in}
 use Rattle.dense_model.specs.RowTexts.{block_lines, heading_lines}
-use Rattle.dense_model.specs.Texts.{line}
+use Rattle.mesh_rules.specs.Texts.{line}
 use Rattle.dense_model.specs.RunFiles.{RunAt, dump_after}
 use Rattle.problem_set.specs.SettingsOf.{settings_of}
 use Rattle.dense_model.proofs.DumpReads.{kept_count, kept_dump}

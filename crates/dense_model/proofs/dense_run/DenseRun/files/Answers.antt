@@ -2,7 +2,7 @@ use Rattle.std.proofs.Common.{◌≡◌, ◌++◌, ◌+◌, ℕ, List, map, ap, 
 use Rattle.problem_set.specs.Settings.{Settings}
 use Rattle.problem_set.specs.SettingsOf.{settings_of}
 use Rattle.dense_model.specs.FileList.{name_and_bytes}
-use Rattle.dense_model.specs.RunFiles.{RunAt, dumps_at, files_until}
+use Rattle.dense_model.specs.RunFiles.{RunAt, dumps_at, dumps_until}
 use Rattle.dense_model.proofs.FileSteps.{files_more}
 use Rattle.dense_model.proofs.dense_run.DenseRun.files.Goals as goal
 
@@ -24,10 +24,10 @@ returns c =
     let p = c.in_ok-run.run'.problem in
     let prefix = c.args.prefix.now in
     let n = c.loop-cycle.cycle in
-    subst (λ (v : RunAt). map name_and_bytes c.push_dump-2.new.files ≡ files_until v.problem prefix v.cycle) c.self.view_is
+    subst (λ (v : RunAt). map name_and_bytes c.push_dump-2.new.files ≡ dumps_until v.problem prefix v.cycle) c.self.view_is
     (c.in_ok-push_dump-2.ensures
     ∙ ap (λ (v : RunAt). map name_and_bytes c.loop-cycle.files ++ dumps_at v.problem prefix v.cycle) c.loop-cycle.invariant.run_is
     ∙ ap (λ (xs : List (List ℕ × List ℕ)). xs ++ dumps_at p prefix n) c.loop-cycle.invariant.files_are
     ∙ files_more p prefix n
-    ∙ ap (λ (q : Settings). files_until q prefix n) (ap (λ (v : RunAt). v.problem) c.in_ok-run.ensures)
-    ∙ ap (λ (k : ℕ). files_until (settings_of c.self.inside.problem.now) prefix k) (omega (arith, c.loop-cycle.auto.cycle-end)))
+    ∙ ap (λ (q : Settings). dumps_until q prefix n) (ap (λ (v : RunAt). v.problem) c.in_ok-run.ensures)
+    ∙ ap (λ (k : ℕ). dumps_until (settings_of c.self.inside.problem.now) prefix k) (omega (arith, c.loop-cycle.auto.cycle-end)))

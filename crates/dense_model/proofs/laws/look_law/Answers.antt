@@ -1,5 +1,0 @@
-use Rattle.dense_model.proofs.Looks.{look_law}
-use Rattle.dense_model.proofs.laws.look_law.Goals as goal
-
-pub returns : goal.returns
-returns c = look_law
