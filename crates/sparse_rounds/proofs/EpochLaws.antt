@@ -29,7 +29,7 @@ sum_zero_at f a (suc n) z i low high =
     let c = sum_by-cons f a (range_with_len (a + 1) n) in
     elim (cases_eq i a) [ inl e ↦ (let d = ap f e in omega arith) | inr ne ↦ sum_zero_at f (a + 1) n (omega arith) i (omega arith) (omega arith) ]
 
-differs_not : (b c : Bool) → cond (differs b c) 1 0 ≡ 0 → b ≡ c
+differs_not : (b c : Bool) → ◌≡◌ {A = ℕ} (cond (differs b c) 1 0) 0 → b ≡ c
 differs_not true true h = refl
 differs_not true false h = absurd (one_not_zero h)
   where
