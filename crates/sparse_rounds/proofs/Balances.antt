@@ -1,5 +1,5 @@
 -- A cycle balances where a stage and a reaction do.
-use Rattle.std.proofs.Common.{◌≡◌, ℕ, zero, suc, ◌+◌, Bool, true, false, cond, List, [], ◌∷◌, sum_by, refl, arith, ap, sym, ◌∙◌}
+use Rattle.std.proofs.Common.{◌≡◌, ℕ, zero, suc, ◌+◌, Bool, true, false, cond, List, [], ◌∷◌, sum_by, refl, arith}
 use Rattle.std.specs.List.{range_with_len}
 use Rattle.std.proofs.lemmas.List.Sums.{sum_by-cons}
 use Rattle.sparse_rounds.specs.Kernels.{AreKernels, Kernels, pairs_of}
@@ -63,8 +63,8 @@ module _ {X V G F P W : Type 0} (k : Kernels X V G F P W) (laws : AreKernels k) 
   pub cycle_balances_of : (start : Run V) → StageBalances k blocks f → ReactionBalances k blocks f → Balances k blocks start (checked_run k start) f
   cycle_balances_of start h i =
       then start (reacted_run k start) (checked_run k start)
-          (then start (run_at k start k.stages) (reacted_run k start) (stages_balance h start k.stages) (reaction_balances i (run_at k start k.stages)))
-          (check_balances (reacted_run k start))
+      (then start (run_at k start k.stages) (reacted_run k start) (stages_balance h start k.stages) (reaction_balances i (run_at k start k.stages)))
+      (check_balances (reacted_run k start))
 
 pub cycle_balances : (X V G F P W : Type 0) → CycleBalances X V G F P W
 cycle_balances X V G F P W k start blocks f laws h i = cycle_balances_of k laws blocks f start h i

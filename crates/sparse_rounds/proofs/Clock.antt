@@ -1,8 +1,8 @@
 -- Which task a count of given tasks stands before.
-use Rattle.std.proofs.Common.{◌≡◌, ℕ, zero, suc, ◌+◌, ◌-◌, ◌*◌, ◌%◌, ◌<◌, ◌≤◌, ◌==◌, Bool, true, false, cond, nat_lt, List, refl, arith, ap, sym, ◌∙◌, eq-eqb, count_by}
+use Rattle.std.proofs.Common.{◌≡◌, ℕ, ◌+◌, ◌-◌, ◌*◌, ◌%◌, ◌<◌, ◌≤◌, ◌==◌, Bool, true, false, cond, nat_lt, arith, ap, ◌∙◌, eq-eqb, count_by}
 use Rattle.std.specs.List.{list_any}
 use Rattle.std.proofs.lemmas.Bool.{le-ltb, lt-ltb, ne_eqb}
-use Rattle.cycle_rounds.specs.Plan.{IsPlan, Plan, is_due}
+use Rattle.cycle_rounds.specs.Plan.{IsPlan, is_due}
 use Rattle.sparse_rounds.specs.Kernels.{AreKernels, Kernels}
 use Rattle.sparse_rounds.specs.Sparse.{Local, has_flag, plan_of, stage_work, tail_work, work_of}
 

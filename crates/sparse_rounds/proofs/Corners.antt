@@ -1,9 +1,9 @@
 -- The kernels of a coarse block beside finer ones meet the laws.
-use Rattle.std.proofs.Common.{◌≡◌, ℕ, zero, suc, ◌+◌, ◌-◌, ◌/◌, ◌%◌, ◌<◌, ◌≤◌, ◌==◌, Bool, true, false, cond, ◌&&◌, ◌||◌, not, nat_lt, ◌⊎◌, inl, inr, List, [], ◌∷◌, count_by, refl, arith, ap, sym, ◌∙◌, eq-eqb, subst}
+use Rattle.std.proofs.Common.{◌≡◌, ℕ, zero, suc, ◌+◌, ◌/◌, ◌<◌, ◌≤◌, ◌==◌, Bool, true, false, cond, ◌&&◌, ◌||◌, nat_lt, ◌⊎◌, inl, inr, [], ◌∷◌, count_by, refl, arith, ap, sym, ◌∙◌, eq-eqb, subst}
 use Rattle.std.specs.List.{list_any}
-use Rattle.std.proofs.lemmas.Bool.{and_from, and_parts, cases_eq, eqb-true, false≢true, le-ltb, lt-ltb, ltb-true, or_cases}
+use Rattle.std.proofs.lemmas.Bool.{and_from, and_parts, eqb-true, false≢true, le-ltb, ltb-true, or_cases}
 use Rattle.cycle_rounds.proofs.Lists.{count_cons}
-use Rattle.sparse_rounds.specs.Kernels.{AreKernels, IsSentTo, Kernels, SameParts, ghosts_of, own_pairs}
+use Rattle.sparse_rounds.specs.Kernels.{IsSentTo, ghosts_of, own_pairs}
 use Rattle.sparse_rounds.specs.Row.{same_bool}
 use Rattle.sparse_rounds.specs.Corner.{CornersMeetTheLaws, Link, Pair, Part, across, beyond, corner_kernels, fine_sums, moved, quarter, same_link}
 

@@ -1,9 +1,9 @@
 -- At zero thresholds nothing is dropped.
-use Rattle.std.proofs.Common.{◌≡◌, ℕ, zero, suc, ◌+◌, Bool, true, false, cond, not, ◌&&◌, ◌||◌, ◌==◌, nat_le, inl, inr, List, refl, arith, ap, sym, ◌∙◌, eq-eqb}
+use Rattle.std.proofs.Common.{◌≡◌, ℕ, zero, suc, ◌+◌, Bool, true, false, cond, not, ◌&&◌, ◌||◌, ◌==◌, nat_le, refl, arith, ap, sym, ◌∙◌, eq-eqb}
 use Rattle.std.specs.List.{list_any}
-use Rattle.std.proofs.lemmas.Bool.{and_from, and_parts, cases_Bool, false≢true, false_from_ne_true, not-false, or_parts, true≢false, true_from_ne_false}
-use Rattle.sparse_rounds.specs.Kernels.{AreKernels, IsSentTo, Kernels, SameParts, ghosts_of, own_pairs, pairs_of}
-use Rattle.sparse_rounds.specs.Masked.{IsStart, Run, after_check, after_reaction, after_stage, checked_run, is_called, is_freed, kept_checked, kept_next, kept_reacted, reacted_run, run_at, staged}
+use Rattle.std.proofs.lemmas.Bool.{and_from, false≢true, false_from_ne_true, not-false, or_parts, true≢false, true_from_ne_false}
+use Rattle.sparse_rounds.specs.Kernels.{AreKernels, Kernels, SameParts, ghosts_of, own_pairs, pairs_of}
+use Rattle.sparse_rounds.specs.Masked.{IsStart, Run, checked_run, is_called, is_freed, kept_checked, kept_next, kept_reacted, reacted_run, run_at, staged}
 use Rattle.sparse_rounds.specs.Dense.{AreZeroThresholds, IsDense, MaskedIsDense, dense_at}
 use Rattle.sparse_rounds.proofs.Runs.{any_there, if_false, if_true, others_kept, rest_zero}
 
@@ -17,7 +17,7 @@ module _ {X V G F P W : Type 0} (k : Kernels X V G F P W) (laws : AreKernels k) 
   uncalled_part : (mesh : ℕ → ℕ → V) (b f : ℕ) → list_any (λ x. k.to x == b && k.calls (k.region x (mesh (k.from x) f))) k.ghost_due ≡ false → SameParts k.same k.to k.ghost_due b (λ x. k.region x (mesh (k.from x) f)) k.no_part
   uncalled_part mesh b f h x s = zeros.parts x (mesh (k.from x) f) (false_from_ne_true (k.calls (k.region x (mesh (k.from x) f))) (λ e.
       true≢false (sym (any_there k.same laws.same_is (λ y. k.to y == b && k.calls (k.region y (mesh (k.from y) f))) x k.ghost_due s.is_due
-          (and_from (k.to x == b) (k.calls (k.region x (mesh (k.from x) f))) (eq-eqb (k.to x) b s.is_to) e)) ∙ h)))
+      (and_from (k.to x == b) (k.calls (k.region x (mesh (k.from x) f))) (eq-eqb (k.to x) b s.is_to) e)) ∙ h)))
 
   -- what is not kept after an exchange is nothing after the stage
   unkept_stage : (n b f : ℕ) → kept_next k (run_at k start n) b f ≡ false → (has : Bool) → k.has_fluxes f ≡ has → staged k (run_at k start n).mesh b f ≡ k.no_cells

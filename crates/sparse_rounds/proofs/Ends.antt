@@ -1,10 +1,10 @@
 -- What the machine supplies, in every state that is reached, and at the end.
-use Rattle.std.proofs.Common.{◌≡◌, ℕ, ◌+◌, ◌*◌, ◌<◌, ◌≤◌, ◌==◌, Bool, true, false, is_some, List, [], ◌∷◌, ◌++◌, length, refl, arith, ap, sym, ◌∙◌}
+use Rattle.std.proofs.Common.{◌≡◌, ℕ, ◌+◌, ◌*◌, ◌==◌, Bool, is_some, List, [], ◌∷◌, length, refl, arith}
 use Rattle.std.specs.List.{list_all, range_with_len}
 use Rattle.std.proofs.lemmas.Bool.{and_parts, eqb-true}
 use Rattle.cycle_rounds.specs.Plan.{all_tasks}
-use Rattle.cycle_rounds.specs.Events.{Each, Event, IsHistory, Letter, is_complete}
-use Rattle.cycle_rounds.proofs.Carried.{HasCome, IsCarried, replay_carried}
+use Rattle.cycle_rounds.specs.Events.{Each, Event, IsHistory, Letter}
+use Rattle.cycle_rounds.proofs.Carried.{IsCarried, replay_carried}
 use Rattle.cycle_rounds.proofs.Each.{each_append}
 use Rattle.cycle_rounds.proofs.Lists.{range_at}
 use Rattle.sparse_rounds.specs.Kernels.{AreKernels, Kernels}
@@ -31,7 +31,7 @@ pub letters_stay_true : (X V G F P W : Type 0) → LettersStayTrue X V G F P W
 letters_stay_true X V G F P W k start events laws is h =
     let c = carried k start events laws is h in
     each_append (λ (l : Letter X (ℕ → P)). LetterAgrees k start l.round l.of l.content) (reached k start events).wire (reached k start events).mail c.wire
-        (each_first (λ (l : Letter X (ℕ → P)). LetterAgrees k start l.round l.of l.content) (λ (l : Letter X (ℕ → P)). Came k laws start is l.round l.of ((reached k start events).local (k.owner (k.to l.of)))) (reached k start events).mail c.mail)
+    (each_first (λ (l : Letter X (ℕ → P)). LetterAgrees k start l.round l.of l.content) (λ (l : Letter X (ℕ → P)). Came k laws start is l.round l.of ((reached k start events).local (k.owner (k.to l.of)))) (reached k start events).mail c.mail)
 
 pub buffers_are_those : (X V G F P W : Type 0) → BuffersAreThose X V G F P W
 buffers_are_those X V G F P W k start events laws is h b f at =

@@ -1,9 +1,9 @@
 -- While the epoch of a list stays, so do its places.
-use Rattle.std.proofs.Common.{◌≡◌, ℕ, zero, suc, ◌+◌, ◌<◌, ◌≤◌, ◌==◌, Bool, true, false, cond, ◌&&◌, not, Option, is_some, List, [], ◌∷◌, ◌++◌, map, count_by, sum_by, filter, inl, inr, refl, arith, ap, sym, ◌∙◌}
+use Rattle.std.proofs.Common.{◌≡◌, ℕ, zero, suc, ◌+◌, ◌<◌, ◌≤◌, Bool, true, false, cond, ◌&&◌, List, [], ◌∷◌, ◌++◌, map, count_by, sum_by, filter, inl, inr, refl, arith, ap, sym, ◌∙◌}
 use Rattle.std.proofs.lemmas.Bool.{cases_eq}
 use Rattle.std.specs.List.{flat_map, range_with_len}
 use Rattle.std.proofs.lemmas.List.Sums.{sum_by-cons}
-use Rattle.cycle_rounds.specs.Events.{Event, Machine, State, after, step}
+use Rattle.cycle_rounds.specs.Events.{Event, State, after, step}
 use Rattle.sparse_rounds.specs.Kernels.{Kernels}
 use Rattle.sparse_rounds.specs.Masked.{Run}
 use Rattle.sparse_rounds.specs.Sparse.{Local, has_flag, plan_of, sparse}
@@ -54,7 +54,7 @@ module _ {X V G F P W : Type 0} (k : Kernels X V G F P W) (start : Run V) (size 
   same_listed : (s next : State X (Local V G F W) (ℕ → P)) (g : ℕ) → Same s next → listed k size next i g ≡ listed k size s i g
   same_listed s next g h = flat_same (λ b. map (λ f. (b, f)) (filter (λ f. has_buffer k next i b f && has_flag k g f) (range_with_len 0 size.fields))) (λ b. map (λ f. (b, f)) (filter (λ f. has_buffer k s i b f && has_flag k g f) (range_with_len 0 size.fields))) 0 size.blocks
       (λ b low high. ap (map (λ f. (b, f))) (filter_same (λ f. has_buffer k next i b f && has_flag k g f) (λ f. has_buffer k s i b f && has_flag k g f) 0 size.fields
-          (λ f l m. ap (λ (v : Bool). v && has_flag k g f) (sym (h b f (omega arith) (omega arith))))))
+      (λ f l m. ap (λ (v : Bool). v && has_flag k g f) (sym (h b f (omega arith) (omega arith))))))
 
   quiet : (s : State X (Local V G F W) (ℕ → P)) (events : List Event) → epoch k start size s events i ≡ 0 → Same s (after (plan_of k) (sparse k start) s events)
   quiet s [] z b f low lower = refl

@@ -1,11 +1,11 @@
 -- The kernels of a row of blocks meet the laws.
-use Rattle.std.proofs.Common.{◌≡◌, ℕ, zero, suc, ◌+◌, ◌-◌, ◌*◌, ◌/◌, ◌<◌, ◌≤◌, ◌==◌, Bool, true, false, cond, ◌&&◌, ◌||◌, not, nat_lt, nat_le, inl, inr, List, [], ◌∷◌, ◌++◌, map, count_by, refl, arith, ap, sym, ◌∙◌, eq-eqb, subst}
+use Rattle.std.proofs.Common.{◌≡◌, ℕ, zero, suc, ◌+◌, ◌<◌, ◌≤◌, ◌==◌, Bool, true, false, cond, ◌&&◌, ◌||◌, not, nat_lt, inl, inr, List, [], ◌∷◌, ◌++◌, map, count_by, refl, arith, ap, sym, ◌∙◌, eq-eqb}
 use Rattle.std.specs.List.{list_any, range_with_len}
-use Rattle.std.proofs.lemmas.Bool.{and_from, and_left, and_parts, and_right, cases_eq, cases_lt, eqb-false, eqb-true, false≢true, false_from_ne_true, le-ltb, leb-true, lt-ltb, ltb-false, ltb-true, ne_eqb, not-false, not-true, or_left, or_right, true≢false}
-use Rattle.cycle_rounds.proofs.Lists.{count_append, count_cons, count_cons_no, count_cons_yes}
-use Rattle.sparse_rounds.specs.Kernels.{AreKernels, IsSentTo, Kernels, SameParts}
+use Rattle.std.proofs.lemmas.Bool.{and_from, and_left, and_parts, and_right, cases_eq, eqb-false, eqb-true, false≢true, le-ltb, leb-true, lt-ltb, ltb-false, ltb-true, ne_eqb, not-false, not-true, or_left, or_right}
+use Rattle.cycle_rounds.proofs.Lists.{count_append, count_cons, count_cons_no}
+use Rattle.sparse_rounds.specs.Kernels.{AreKernels, SameParts}
 use Rattle.sparse_rounds.specs.Dense.{AreZeroThresholds}
-use Rattle.sparse_rounds.specs.Row.{Ends, Passing, RowOf, RowsMeetTheLaws, Side, due_of, ends_of, moves, passing, row_kernels, same_bool, same_side}
+use Rattle.sparse_rounds.specs.Row.{Ends, RowOf, RowsMeetTheLaws, Side, due_of, ends_of, row_kernels, same_bool, same_side}
 
 same_bool_is : (a b : Bool) → same_bool a b ≡ true → a ≡ b
 same_bool_is true true h = refl
@@ -104,8 +104,8 @@ ends_read w b f c d h =
     let l : Side = record { block = b; high = false } in
     let u : Side = record { block = b; high = true } in
     ends_same (ends_of w b f c).low (ends_of w b f d).low (ends_of w b f c).high (ends_of w b f d).high
-        (low_same w b f (c l) (d l) (b == 0) (nat_lt b w.blocks) refl refl (λ p q. h l (record { is_due = low_due w.blocks b p q; is_to = refl })))
-        (high_same w b (c u) (d u) (nat_lt (b + 1) w.blocks) refl (λ q. h u (record { is_due = high_due w.blocks b q; is_to = refl })))
+    (low_same w b f (c l) (d l) (b == 0) (nat_lt b w.blocks) refl refl (λ p q. h l (record { is_due = low_due w.blocks b p q; is_to = refl })))
+    (high_same w b (c u) (d u) (nat_lt (b + 1) w.blocks) refl (λ q. h u (record { is_due = high_due w.blocks b q; is_to = refl })))
 
 -- with no parts and no inflow they are nothing
 dry_low : (w : RowOf) (b f : ℕ) (first inside : Bool) → (b == 0) ≡ first → (b == 0 && not (w.inflow f == 0)) ≡ false → cond first (w.inflow f) (cond inside 0 0) ≡ 0

@@ -1,9 +1,9 @@
 -- The masked serial run: what is kept and touched, and that nothing gives nothing where nothing is.
-use Rattle.std.proofs.Common.{◌≡◌, ℕ, zero, suc, ◌+◌, ◌-◌, ◌*◌, ◌<◌, ◌≤◌, ◌==◌, Bool, true, false, cond, not, ◌&&◌, ◌||◌, inl, inr, nat_le, Option, Some, None, List, [], ◌∷◌, refl, arith, ap, sym, ◌∙◌, eq-eqb}
+use Rattle.std.proofs.Common.{◌≡◌, ℕ, zero, suc, ◌+◌, ◌-◌, ◌≤◌, ◌==◌, Bool, true, false, cond, not, ◌&&◌, ◌||◌, inl, inr, List, [], ◌∷◌, refl, arith, ap, sym, ◌∙◌, eq-eqb}
 use Rattle.std.specs.List.{list_any}
-use Rattle.std.proofs.lemmas.Bool.{and_from, and_parts, cases_Bool, cases_eq, eqb-true, false≢true, false_from_ne_true, not-false, not_from_false, or_cases, or_left, or_parts, or_right, true≢false, true_from_ne_false}
-use Rattle.sparse_rounds.specs.Kernels.{AreKernels, IsSentTo, Kernels, SameParts, ghosts_of, own_pairs, pairs_of}
-use Rattle.sparse_rounds.specs.Masked.{IsStart, Run, after_stage, is_called, is_sent, kept_next, run_at, staged, touched}
+use Rattle.std.proofs.lemmas.Bool.{and_from, and_parts, false≢true, false_from_ne_true, not_from_false, or_cases, or_left, or_parts, or_right, true≢false, true_from_ne_false}
+use Rattle.sparse_rounds.specs.Kernels.{AreKernels, Kernels, SameParts, ghosts_of, own_pairs, pairs_of}
+use Rattle.sparse_rounds.specs.Masked.{IsStart, Run, is_called, is_sent, kept_next, run_at, staged, touched}
 
 pub if_true : {A : Type 0} (b : Bool) (x y : A) → b ≡ true → cond b x y ≡ x
 if_true b x y e = ap (λ (v : Bool). cond v x y) e
@@ -76,12 +76,14 @@ module _ {X V G F P W : Type 0} (k : Kernels X V G F P W) (laws : AreKernels k) 
     where
       refl_zero : 0 + n ≡ n
       refl_zero = omega arith
+
       again : (i j : ℕ) → i ≡ j → touched k start j b f ≡ true → touched k start i b f ≡ true
       again i j e g = ap (λ v. touched k start v b f) e ∙ g
   touched_more n (suc m) b f h = again (suc m + n) (suc (m + n)) one_more (or_left (touched k start (m + n) b f) (k.is_sparse f && (k.has_ghosts f && (k.flows_in b f || is_sent k (run_at k start (m + n)).mesh b f))) (touched_more n m b f h))
     where
       one_more : suc m + n ≡ suc (m + n)
       one_more = omega arith
+
       again : (i j : ℕ) → i ≡ j → touched k start j b f ≡ true → touched k start i b f ≡ true
       again i j e g = ap (λ v. touched k start v b f) e ∙ g
 
@@ -101,7 +103,7 @@ module _ {X V G F P W : Type 0} (k : Kernels X V G F P W) (laws : AreKernels k) 
   pub unsent_part : (mesh : ℕ → ℕ → V) (b f : ℕ) → is_sent k mesh b f ≡ false → SameParts k.same k.to k.ghost_due b (λ x. k.region x (mesh (k.from x) f)) k.no_part
   unsent_part mesh b f h x s = laws.blank_is_none x (mesh (k.from x) f) (true_from_ne_false (k.is_blank (k.region x (mesh (k.from x) f))) (λ e.
       true≢false (sym (any_there k.same laws.same_is (λ y. k.to y == b && not (k.is_blank (k.region y (mesh (k.from y) f)))) x k.ghost_due s.is_due
-          (and_from (k.to x == b) (not (k.is_blank (k.region x (mesh (k.from x) f)))) (eq-eqb (k.to x) b s.is_to) (not_from_false (k.is_blank (k.region x (mesh (k.from x) f))) e))) ∙ h)))
+      (and_from (k.to x == b) (not (k.is_blank (k.region x (mesh (k.from x) f)))) (eq-eqb (k.to x) b s.is_to) (not_from_false (k.is_blank (k.region x (mesh (k.from x) f))) e))) ∙ h)))
 
   pub no_ghosts_from : (mesh : ℕ → ℕ → V) (b f : ℕ) → k.flows_in b f ≡ false → is_sent k mesh b f ≡ false → ghosts_of k mesh b f ≡ k.no_ghosts
   no_ghosts_from mesh b f e h = laws.ghosts_of_none b f (λ x. k.region x (mesh (k.from x) f)) e (unsent_part mesh b f h)

@@ -1,12 +1,12 @@
 -- The work of a stage's tasks keeps the agreement with the masked run.
-use Rattle.std.proofs.Common.{◌≡◌, ℕ, zero, suc, ◌+◌, ◌*◌, ◌<◌, ◌≤◌, ◌==◌, Bool, true, false, cond, not, ◌&&◌, ◌||◌, inl, inr, Option, Some, None, is_some, List, refl, arith, ap, sym, ◌∙◌, eq-eqb}
+use Rattle.std.proofs.Common.{◌≡◌, ℕ, suc, ◌+◌, ◌<◌, ◌==◌, Bool, true, false, cond, ◌&&◌, ◌||◌, inl, inr, Some, is_some, refl, arith, ap, sym, ◌∙◌}
 use Rattle.std.specs.List.{list_any}
-use Rattle.std.proofs.lemmas.Bool.{and_from, and_parts, cases_Bool, eqb-true, false≢true, false_from_ne_true, or_cases, or_left, or_parts, or_right, true≢false}
-use Rattle.sparse_rounds.specs.Kernels.{AreKernels, IsSentTo, Kernels, SameParts, ghosts_of, own_pairs, pairs_of}
-use Rattle.sparse_rounds.specs.Masked.{IsStart, Run, after_stage, is_called, is_sent, kept_next, run_at, staged, touched}
-use Rattle.sparse_rounds.specs.Sparse.{Buf, Local, filled, fixed, fluxed, free, has_flag, lease_of, nothing, read, updated, updated_cells}
-use Rattle.sparse_rounds.specs.Agreement.{StageAgrees, StageLease, SumsAgree, WasAbsent}
-use Rattle.sparse_rounds.proofs.Runs.{Untouched, any_in, if_false, if_true, no_cells_there, no_ghosts_from, no_ghosts_there, no_own_there, no_pairs_there, no_stage_there, no_sums_there, rest_zero, touched_on, unkept, unsent_part, untouched_is, untouched_sparse, untouched_zero}
+use Rattle.std.proofs.lemmas.Bool.{and_from, and_parts, eqb-true, false≢true, false_from_ne_true, or_cases, or_left, or_parts, or_right, true≢false}
+use Rattle.sparse_rounds.specs.Kernels.{AreKernels, Kernels, SameParts, ghosts_of, own_pairs, pairs_of}
+use Rattle.sparse_rounds.specs.Masked.{IsStart, Run, is_called, is_sent, kept_next, run_at, staged, touched}
+use Rattle.sparse_rounds.specs.Sparse.{Buf, Local, filled, fixed, fluxed, free, nothing, read, updated, updated_cells}
+use Rattle.sparse_rounds.specs.Agreement.{StageAgrees, WasAbsent}
+use Rattle.sparse_rounds.proofs.Runs.{any_in, if_false, if_true, no_cells_there, no_ghosts_from, no_own_there, no_pairs_there, no_stage_there, rest_zero, touched_on, unkept, untouched_sparse, untouched_zero}
 
 -- what a lease says of one place, with the flag of its task
 pub record Lent {X V G F P W : Type 0} (k : Kernels X V G F P W) (start : Run V) (n j : ℕ) (flag : Bool) (l : Local V G F W) (b f : ℕ) : Type 0 where
@@ -101,7 +101,7 @@ module _ {X V G F P W : Type 0} (k : Kernels X V G F P W) (laws : AreKernels k) 
       let p = and_parts (k.is_sparse f) (k.has_ghosts f && k.flows_in b f) d in
       let q = and_parts (k.has_ghosts f) (k.flows_in b f) p.1 in
       touched_on k laws start is (suc n) k.stages b f low (or_right (touched k start n b f) (k.is_sparse f && (k.has_ghosts f && (k.flows_in b f || is_sent k (run_at k start n).mesh b f)))
-          (and_from (k.is_sparse f) (k.has_ghosts f && (k.flows_in b f || is_sent k (run_at k start n).mesh b f)) p.0 (and_from (k.has_ghosts f) (k.flows_in b f || is_sent k (run_at k start n).mesh b f) q.0 (or_left (k.flows_in b f) (is_sent k (run_at k start n).mesh b f) q.1))))
+      (and_from (k.is_sparse f) (k.has_ghosts f && (k.flows_in b f || is_sent k (run_at k start n).mesh b f)) p.0 (and_from (k.has_ghosts f) (k.flows_in b f || is_sent k (run_at k start n).mesh b f) q.0 (or_left (k.flows_in b f) (is_sent k (run_at k start n).mesh b f) q.1))))
   fill_only low h t u false false e d some = h.only_there some
 
   pub fill_agrees : n < k.stages → (content : X → ℕ → P) → (k.has_ghosts f ≡ true → SameParts k.same k.to k.ghost_due b (λ x. content x f) (λ x. k.region x ((run_at k start n).mesh (k.from x) f))) → StageAgrees k start n 1 l b f → Lent k start n 1 (k.has_ghosts f) l b f → StageAgrees k start n 2 (filled k content l) b f
@@ -190,9 +190,10 @@ module _ {X V G F P W : Type 0} (k : Kernels X V G F P W) (laws : AreKernels k) 
   rest_by t e true kept has h =
       let u = (t.rest e has).untouched_filled (omega arith) in
       let off : kept ≡ false = sym h ∙ unkept k laws start is (suc n) b f u in
-      let z = no_stage_there k laws start is n b f u has in
-      (if_false kept (staged k (run_at k start n).mesh b f) k.no_cells off ∙ sym (no_cells_there k laws start is n b f u),
-          if_false kept 0 (k.amount (staged k (run_at k start n).mesh b f)) off ∙ ap k.amount z ∙ laws.no_amount)
+      let z = no_stage_there k laws start is n b f u has in (
+        if_false kept (staged k (run_at k start n).mesh b f) k.no_cells off ∙ sym (no_cells_there k laws start is n b f u),
+        if_false kept 0 (k.amount (staged k (run_at k start n).mesh b f)) off ∙ ap k.amount z ∙ laws.no_amount,
+      )
   rest_by t e false true has h = (if_false (k.has_fluxes f) (k.update b f ((run_at k start n).mesh b f) (pairs_of k (run_at k start n).mesh b f)) ((run_at k start n).mesh b f) has, refl)
   rest_by t e false false has h =
       let old = (or_parts ((run_at k start n).kept b f) (is_called k (λ x. k.region x ((run_at k start n).mesh (k.from x) f)) b f) h).0 in

@@ -2,15 +2,14 @@
 use Rattle.std.proofs.Common.{◌≡◌, ℕ, zero, suc, ◌+◌, ◌-◌, ◌*◌, ◌/◌, ◌%◌, ◌<◌, ◌≤◌, ◌==◌, Bool, true, false, cond, not, ◌&&◌, ◌||◌, inl, inr, Option, Some, None, is_some, List, [], ◌∷◌, refl, arith, ap, sym, subst, ◌∙◌, eq-eqb}
 use Rattle.std.specs.List.{list_any}
 use Rattle.std.proofs.lemmas.Bool.{and_from, and_parts, cases_lt, eqb-true, false≢true, false_from_ne_true, not-true, not_from_false, or_left, or_right, true≢false}
-use Rattle.cycle_rounds.specs.Plan.{IsPlan, Plan, all_tasks, is_due}
-use Rattle.cycle_rounds.specs.Events.{Event, IsHistory, Machine, State, replay}
-use Rattle.cycle_rounds.proofs.Carried.{Carries, IsCarried, replay_carried}
-use Rattle.sparse_rounds.specs.Kernels.{AreKernels, IsSentTo, Kernels, SameParts, ghosts_of, own_pairs, pairs_of}
-use Rattle.sparse_rounds.specs.Masked.{IsStart, Run, checked_run, is_called, is_sent, kept_next, reacted_run, run_at, touched}
+use Rattle.cycle_rounds.specs.Plan.{all_tasks, is_due}
+use Rattle.cycle_rounds.proofs.Carried.{Carries}
+use Rattle.sparse_rounds.specs.Kernels.{AreKernels, Kernels, SameParts, own_pairs}
+use Rattle.sparse_rounds.specs.Masked.{IsStart, Run, checked_run, is_sent, reacted_run, run_at, touched}
 use Rattle.sparse_rounds.specs.Sparse.{Buf, Local, arrived, begin_with, has_flag, lease_of, letter_of, makes, nothing, plan_of, read, sparse, stage_work, tail_work, work_of}
-use Rattle.sparse_rounds.specs.Agreement.{Agrees, LetterAgrees, RunAgrees, StageAgrees, StageLease, SumsAgree, WasAbsent}
+use Rattle.sparse_rounds.specs.Agreement.{Agrees, LetterAgrees, RunAgrees, StageAgrees, StageLease, WasAbsent}
 use Rattle.sparse_rounds.proofs.Runs.{any_there, if_false, if_true, no_own_there, touched_on, untouched_sparse, untouched_zero}
-use Rattle.sparse_rounds.proofs.Clock.{due_fluxes, due_ghosts, even_round, flag_of_all, flag_of_fluxes, flag_of_ghosts, is_plan, odd_round, work_in_stage, work_in_tail}
+use Rattle.sparse_rounds.proofs.Clock.{due_fluxes, due_ghosts, even_round, flag_of_all, flag_of_fluxes, flag_of_ghosts, odd_round, work_in_stage, work_in_tail}
 use Rattle.sparse_rounds.proofs.Stages.{Lent, fill_agrees, fix_agrees, flux_agrees, post_agrees, send_agrees, update_agrees}
 use Rattle.sparse_rounds.proofs.Tail.{check_agrees, check_there, react_agrees, react_buffers, tag_agrees, tag_wishes}
 
@@ -41,14 +40,22 @@ module _ {X V G F P W : Type 0} (k : Kernels X V G F P W) (laws : AreKernels k) 
   -- a record of agreement, where what it reads is the same
   restage : (n j : ℕ) (l : Local V G F W) (leased : ℕ → ℕ → Bool) (b f : ℕ) → StageAgrees k start n j l b f → StageAgrees k start n j (record l { leased = leased }) b f
   restage n j l leased b f h = let s = h.sums in record {
-    cells = h.cells; ghosts = h.ghosts; own_pairs = h.own_pairs; pairs = h.pairs; kept = h.kept; kept_filled = h.kept_filled;
+    cells = h.cells;
+    ghosts = h.ghosts;
+    own_pairs = h.own_pairs;
+    pairs = h.pairs;
+    kept = h.kept;
+    kept_filled = h.kept_filled;
     sums = record { idle = s.idle; dropped = s.dropped; inflow = s.inflow; outflow = s.outflow; made = s.made; used = s.used };
-    there = h.there; there_filled = h.there_filled; only_there = h.only_there;
+    there = h.there;
+    there_filled = h.there_filled;
+    only_there = h.only_there;
   }
 
   rerun : (r : Run V) (l : Local V G F W) (leased : ℕ → ℕ → Bool) (b f : ℕ) → RunAgrees k r l b f → RunAgrees k r (record l { leased = leased }) b f
   rerun r l leased b f h = let s = h.sums in record {
-    cells = h.cells; kept = h.kept;
+    cells = h.cells;
+    kept = h.kept;
     sums = record { idle = s.idle; dropped = s.dropped; inflow = s.inflow; outflow = s.outflow; made = s.made; used = s.used };
     there = h.there;
   }
@@ -111,9 +118,11 @@ module _ {X V G F P W : Type 0} (k : Kernels X V G F P W) (laws : AreKernels k) 
           let p = and_parts (k.to a.0 == b) (not (k.is_blank (k.region a.0 ((run_at k start n).mesh (k.from a.0) f)))) a.1 in
           let to = eqb-true (k.to a.0) b p.0 in
           subst (λ v. is_some (l.bufs v f) ≡ true) to
-              (come (2 * n) a.0 (omega arith) (omega arith) (due_ghosts k (2 * n) n a.0 refl ∙ a.2) (ap k.owner to ∙ own) n f refl (untouched_sparse k laws start is n b f u) has (not-true (k.is_blank (k.region a.0 ((run_at k start n).mesh (k.from a.0) f))) p.1))
+          (come (2 * n) a.0 (omega arith) (omega arith) (due_ghosts k (2 * n) n a.0 refl ∙ a.2) (ap k.owner to ∙ own) n f refl (untouched_sparse k laws start is n b f u) has (not-true (k.is_blank (k.region a.0 ((run_at k start n).mesh (k.from a.0) f))) p.1))
+
       untouched : is_some (l.bufs b f) ≡ false → j < 2 → touched k start n b f ≡ false
       untouched absent two = false_from_ne_true (touched k start n b f) (λ u. clash (is_some (l.bufs b f)) absent (s.there two u))
+
       rest : is_some (l.bufs b f) ≡ false → has_flag k g f ≡ true → WasAbsent k start n j (lease_of k g l) b f
       rest absent flag = record {
         untouched = untouched absent;
@@ -148,6 +157,7 @@ module _ {X V G F P W : Type 0} (k : Kernels X V G F P W) (laws : AreKernels k) 
     where
       same_stage : (m i : ℕ) → g ≡ 6 * m + i → i < 6 → n ≡ m
       same_stage m i d t = omega arith
+
       same_task : (m i : ℕ) → g ≡ 6 * m + i → i < 6 → j ≡ i
       same_task m i d t = omega arith
 
@@ -203,8 +213,10 @@ module _ {X V G F P W : Type 0} (k : Kernels X V G F P W) (laws : AreKernels k) 
     reacted = λ _ u. absurd (omega arith);
     buffers = λ _ u. absurd (omega arith);
     wished = λ _. (good b f own).wished (omega arith);
-    checked = λ _. (check_agrees k start l b (reacted_run k start) f ((good b f own).lease_all (omega arith) refl) ((good b f own).reacted (omega arith) (omega arith)),
-        check_there k start l b (reacted_run k start) f ((good b f own).lease_all (omega arith) refl) ((good b f own).reacted (omega arith) (omega arith)));
+    checked = λ _. (
+      check_agrees k start l b (reacted_run k start) f ((good b f own).lease_all (omega arith) refl) ((good b f own).reacted (omega arith) (omega arith)),
+      check_there k start l b (reacted_run k start) f ((good b f own).lease_all (omega arith) refl) ((good b f own).reacted (omega arith) (omega arith)),
+    );
   }
   tail_gives i g (suc (suc (suc t))) l b f own e h good = absurd (omega arith)
 
@@ -273,9 +285,9 @@ module _ {X V G F P W : Type 0} (k : Kernels X V G F P W) (laws : AreKernels k) 
       let e : r ≡ 2 * (r / 2) = omega arith in
       let nb : k.is_blank (k.region x ((run_at k start n).mesh (k.from x) f)) ≡ false = ap k.is_blank (sym (holds.ghosts n f e mk.has)) ∙ mk.more in
       let sent = any_there k.same laws.same_is (λ y. k.to y == b && not (k.is_blank (k.region y ((run_at k start n).mesh (k.from y) f)))) x k.ghost_due (sym (due_ghosts k r n x e) ∙ due)
-          (and_from (k.to x == b) (not (k.is_blank (k.region x ((run_at k start n).mesh (k.from x) f)))) (eq-eqb (k.to x) b (sym mk.block)) (not_from_false (k.is_blank (k.region x ((run_at k start n).mesh (k.from x) f))) nb)) in
+      (and_from (k.to x == b) (not (k.is_blank (k.region x ((run_at k start n).mesh (k.from x) f)))) (eq-eqb (k.to x) b (sym mk.block)) (not_from_false (k.is_blank (k.region x ((run_at k start n).mesh (k.from x) f))) nb)) in
       touched_on k laws start is (suc n) k.stages b f (omega arith) (or_right (touched k start n b f) (k.is_sparse f && (k.has_ghosts f && (k.flows_in b f || is_sent k (run_at k start n).mesh b f)))
-          (and_from (k.is_sparse f) (k.has_ghosts f && (k.flows_in b f || is_sent k (run_at k start n).mesh b f)) mk.sparse (and_from (k.has_ghosts f) (k.flows_in b f || is_sent k (run_at k start n).mesh b f) mk.has (or_right (k.flows_in b f) (is_sent k (run_at k start n).mesh b f) sent))))
+      (and_from (k.is_sparse f) (k.has_ghosts f && (k.flows_in b f || is_sent k (run_at k start n).mesh b f)) mk.sparse (and_from (k.has_ghosts f) (k.flows_in b f || is_sent k (run_at k start n).mesh b f) mk.has (or_right (k.flows_in b f) (is_sent k (run_at k start n).mesh b f) sent))))
 
   come_only : (r : ℕ) (x : X) (content : ℕ → P) (l : Local V G F W) (b f : ℕ) → (Makes r x content l b f → touched k start k.stages b f ≡ true) → (is_some (l.bufs b f) ≡ true → touched k start k.stages b f ≡ true) → (mk : Bool) → makes k r x content l b f ≡ mk → is_some (cond mk (Some (nothing k)) (l.bufs b f)) ≡ true → touched k start k.stages b f ≡ true
   come_only r x content l b f new old true e some = new (makes_is r x content l b f e)
@@ -333,10 +345,10 @@ module _ {X V G F P W : Type 0} (k : Kernels X V G F P W) (laws : AreKernels k) 
   has_come : (r : ℕ) (x : X) (content : ℕ → P) (l : Local V G F W) → LetterAgrees k start r x content → Came r x (arrived k r x content l)
   has_come r x content l holds n f e sp has more = made_there (nothing k) (l.bufs (k.to x) f) (makes k r x content l (k.to x) f) (λ absent.
       and_from (r % 2 == 0) (k.to x == k.to x && (not (is_some (l.bufs (k.to x) f)) && (k.is_sparse f && (k.has_ghosts f && not (k.is_blank (content f)))))) (even_round k r n e)
-          (and_from (k.to x == k.to x) (not (is_some (l.bufs (k.to x) f)) && (k.is_sparse f && (k.has_ghosts f && not (k.is_blank (content f))))) (eq-eqb (k.to x) (k.to x) refl)
-              (and_from (not (is_some (l.bufs (k.to x) f))) (k.is_sparse f && (k.has_ghosts f && not (k.is_blank (content f)))) (not_from_false (is_some (l.bufs (k.to x) f)) absent)
-                  (and_from (k.is_sparse f) (k.has_ghosts f && not (k.is_blank (content f))) sp
-                      (and_from (k.has_ghosts f) (not (k.is_blank (content f))) has (not_from_false (k.is_blank (content f)) (ap k.is_blank (holds.ghosts n f e has) ∙ more)))))))
+      (and_from (k.to x == k.to x) (not (is_some (l.bufs (k.to x) f)) && (k.is_sparse f && (k.has_ghosts f && not (k.is_blank (content f))))) (eq-eqb (k.to x) (k.to x) refl)
+      (and_from (not (is_some (l.bufs (k.to x) f))) (k.is_sparse f && (k.has_ghosts f && not (k.is_blank (content f)))) (not_from_false (is_some (l.bufs (k.to x) f)) absent)
+      (and_from (k.is_sparse f) (k.has_ghosts f && not (k.is_blank (content f))) sp
+      (and_from (k.has_ghosts f) (not (k.is_blank (content f))) has (not_from_false (k.is_blank (content f)) (ap k.is_blank (holds.ghosts n f e has) ∙ more)))))))
 
   work_there : (j : ℕ) (content : X → ℕ → P) (l : Local V G F W) (b f : ℕ) → is_some (l.bufs b f) ≡ true → is_some ((stage_work k j content l).bufs b f) ≡ true
   work_there zero content l b f h = h

@@ -1,11 +1,10 @@
 -- The work of the tail's tasks keeps the agreement with the masked run.
-use Rattle.std.proofs.Common.{◌≡◌, ℕ, zero, suc, ◌+◌, ◌*◌, ◌<◌, ◌≤◌, Bool, true, false, cond, not, ◌&&◌, ◌||◌, inl, inr, Option, Some, None, is_some, List, refl, arith, ap, sym, ◌∙◌}
-use Rattle.std.proofs.lemmas.Bool.{and_parts, false≢true, true≢false}
-use Rattle.sparse_rounds.specs.Kernels.{AreKernels, Kernels}
-use Rattle.sparse_rounds.specs.Masked.{IsStart, Run, after_check, after_reaction, checked_run, idle_next, is_freed, kept_checked, kept_reacted, reacted_run, run_at, touched}
-use Rattle.sparse_rounds.specs.Sparse.{Buf, Local, checked, free, keeps_checked, keeps_reacted, lent_cells, nothing, read, reacted, tagged, with_cells}
-use Rattle.sparse_rounds.specs.Agreement.{RunAgrees, StageAgrees, SumsAgree}
-use Rattle.sparse_rounds.proofs.Runs.{if_false, if_true, kept_touched}
+use Rattle.std.proofs.Common.{◌≡◌, ℕ, ◌+◌, Bool, true, false, cond, not, ◌&&◌, ◌||◌, Option, Some, None, is_some, refl, arith, ap, sym, ◌∙◌}
+use Rattle.std.proofs.lemmas.Bool.{and_parts, false≢true}
+use Rattle.sparse_rounds.specs.Kernels.{Kernels}
+use Rattle.sparse_rounds.specs.Masked.{Run, after_check, idle_next, is_freed, kept_checked, kept_reacted, reacted_run, run_at, touched}
+use Rattle.sparse_rounds.specs.Sparse.{Buf, Local, checked, keeps_checked, keeps_reacted, lent_cells, read, reacted, tagged, with_cells}
+use Rattle.sparse_rounds.specs.Agreement.{RunAgrees, StageAgrees}
 
 module _ {X V G F P W : Type 0} (k : Kernels X V G F P W) (start : Run V) (l : Local V G F W) (b : ℕ) where
   lent_by : (o : Option (Buf V G F)) → cond (is_some o) (read k o).cells k.no_cells ≡ (read k o).cells
@@ -51,8 +50,10 @@ module _ {X V G F P W : Type 0} (k : Kernels X V G F P W) (start : Run V) (l : L
     where
       r : Run V
       r = run_at k start k.stages
+
       same : lent_cells k l b ≡ (run_at k start k.stages).mesh b
       same = lent_all (run_at k start k.stages) e (λ g. (h g).cells)
+
       keeps : keeps_reacted k l b f ≡ kept_reacted k (run_at k start k.stages) b f
       keeps = ap (λ (v : Bool). v || (k.is_sparse f && k.cells_call (k.react b (lent_cells k l b) f))) ((h f).kept (omega arith)) ∙ ap (λ (v : ℕ → V). (run_at k start k.stages).kept b f || (k.is_sparse f && k.cells_call (k.react b v f))) same
 

@@ -1,5 +1,5 @@
 -- How the buffers of a list agree with the masked serial run, at each point of its tasks.
-use Rattle.std.specs.Prelude.{◌≡◌, ℕ, suc, ◌+◌, ◌*◌, ◌<◌, ◌≤◌, Bool, true, false, ◌||◌, Option, Some, None, is_some}
+use Rattle.std.specs.Prelude.{◌≡◌, ℕ, suc, ◌+◌, ◌*◌, ◌<◌, ◌≤◌, Bool, true, false, ◌||◌, Some, is_some}
 use Rattle.sparse_rounds.specs.Kernels.{Kernels, ghosts_of, own_pairs, pairs_of}
 use Rattle.sparse_rounds.specs.Masked.{Run, checked_run, is_sent, kept_next, reacted_run, run_at, touched}
 use Rattle.sparse_rounds.specs.Sparse.{Local, has_flag, read}

@@ -1,5 +1,5 @@
 -- What a field holds in all changes by flow through the faces of the domain, by reaction, and by what is dropped.
-use Rattle.std.specs.Prelude.{◌≡◌, ℕ, ◌+◌, cond, List, sum_by}
+use Rattle.std.specs.Prelude.{◌≡◌, ℕ, ◌+◌, cond, sum_by}
 use Rattle.std.specs.List.{range_with_len}
 use Rattle.sparse_rounds.specs.Kernels.{AreKernels, Kernels, pairs_of}
 use Rattle.sparse_rounds.specs.Masked.{Run, checked_run, staged}

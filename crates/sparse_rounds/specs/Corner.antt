@@ -1,5 +1,5 @@
 -- Kernels that meet the laws: a coarse block beside two finer ones, with sums of finer cells, shares of coarser ones and flux sums.
-use Rattle.std.specs.Prelude.{◌≡◌, ◌==◌, ℕ, zero, suc, ◌+◌, ◌-◌, ◌/◌, ◌%◌, Bool, true, false, cond, ◌&&◌, not, nat_lt, nat_le, List, [], ◌∷◌}
+use Rattle.std.specs.Prelude.{◌==◌, ℕ, zero, suc, ◌+◌, ◌-◌, ◌/◌, ◌%◌, Bool, true, false, cond, ◌&&◌, nat_lt, [], ◌∷◌}
 use Rattle.sparse_rounds.specs.Kernels.{AreKernels, Kernels}
 use Rattle.sparse_rounds.specs.Row.{same_bool}
 

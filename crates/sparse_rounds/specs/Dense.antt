@@ -1,5 +1,5 @@
 -- The dense run: the kernels applied to whole meshes, with nothing kept or dropped.
-use Rattle.std.specs.Prelude.{◌≡◌, ℕ, zero, suc, Bool, true, false}
+use Rattle.std.specs.Prelude.{◌≡◌, ℕ, zero, suc, true, false}
 use Rattle.sparse_rounds.specs.Kernels.{AreKernels, Kernels}
 use Rattle.sparse_rounds.specs.Masked.{IsStart, Run, checked_run, reacted_run, run_at, staged}
 

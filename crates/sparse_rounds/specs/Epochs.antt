@@ -1,7 +1,7 @@
 -- Lists of places by flag, and the count of changes that tells whether one is still true.
-use Rattle.std.specs.Prelude.{◌≡◌, ◌==◌, ℕ, ◌+◌, Bool, true, false, cond, ◌&&◌, not, Option, is_some, List, [], ◌∷◌, ◌++◌, map, count_by, sum_by, filter}
+use Rattle.std.specs.Prelude.{◌≡◌, ◌==◌, ℕ, ◌+◌, Bool, true, false, ◌&&◌, not, is_some, List, [], ◌∷◌, ◌++◌, map, count_by, sum_by, filter}
 use Rattle.std.specs.List.{flat_map, range_with_len}
-use Rattle.cycle_rounds.specs.Events.{Event, Machine, State, after, step}
+use Rattle.cycle_rounds.specs.Events.{Event, State, after, step}
 use Rattle.sparse_rounds.specs.Kernels.{Kernels}
 use Rattle.sparse_rounds.specs.Masked.{Run}
 use Rattle.sparse_rounds.specs.Sparse.{Local, has_flag, plan_of, sparse}

@@ -1,6 +1,6 @@
 -- The kernels of a cycle, and what the layers below have to supply of them: that nothing gives nothing, and that a kernel reads its
 -- own block, its ghosts and its letters.
-use Rattle.std.specs.Prelude.{◌≡◌, ◌==◌, ℕ, ◌+◌, ◌<◌, ◌≤◌, Bool, true, false, cond, ◌&&◌, ◌||◌, not, List, count_by}
+use Rattle.std.specs.Prelude.{◌≡◌, ℕ, ◌<◌, ◌≤◌, Bool, true, false, List, count_by}
 use Rattle.std.specs.List.{list_any}
 
 -- X is what a letter is about; V the cells of a field on a block, G its ghosts, F the flux pairs of its faces; P a part of a letter,

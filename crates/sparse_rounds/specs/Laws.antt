@@ -1,6 +1,5 @@
 -- Every legal list of events comes to the same end, that of the masked serial run.
-use Rattle.std.specs.Prelude.{◌≡◌, ℕ, ◌+◌, ◌*◌, Bool, true, false, Option, Some, is_some, List, ◌++◌}
-use Rattle.cycle_rounds.specs.Plan.{IsPlan}
+use Rattle.std.specs.Prelude.{◌≡◌, ℕ, ◌*◌, true, Some, is_some, List, ◌++◌}
 use Rattle.cycle_rounds.specs.Events.{Each, Event, IsHistory, Letter, State, is_complete, replay}
 use Rattle.sparse_rounds.specs.Kernels.{AreKernels, Kernels}
 use Rattle.sparse_rounds.specs.Masked.{IsStart, Run, checked_run, reacted_run, touched}

@@ -1,7 +1,7 @@
 -- The masked serial run of a cycle: whole meshes, stage by stage, with what is kept of them. It knows no events and no buffers.
-use Rattle.std.specs.Prelude.{◌≡◌, ◌==◌, ℕ, zero, suc, ◌+◌, Bool, true, false, cond, ◌&&◌, ◌||◌, not, nat_le, List}
+use Rattle.std.specs.Prelude.{◌≡◌, ◌==◌, ℕ, zero, suc, ◌+◌, Bool, true, false, cond, ◌&&◌, ◌||◌, not, nat_le}
 use Rattle.std.specs.List.{list_any}
-use Rattle.sparse_rounds.specs.Kernels.{Kernels, ghosts_of, own_pairs, pairs_of}
+use Rattle.sparse_rounds.specs.Kernels.{Kernels, pairs_of}
 
 -- the cells of each block and field, whether it is kept there, at how many checks in a row it was idle, and what was dropped there,
 -- flowed in and out through faces of the domain, and was made and used by reactions

@@ -1,8 +1,7 @@
 -- Kernels that meet the laws: a row of blocks of one level, of one cell each, whose fields flow along it and react.
-use Rattle.std.specs.Prelude.{◌≡◌, ◌==◌, ℕ, zero, suc, ◌+◌, ◌-◌, ◌*◌, ◌/◌, ◌<◌, Bool, true, false, cond, ◌&&◌, ◌||◌, not, nat_lt, nat_le, List, ◌++◌, map}
+use Rattle.std.specs.Prelude.{◌≡◌, ◌==◌, ℕ, zero, suc, ◌+◌, ◌-◌, ◌/◌, Bool, true, false, cond, ◌&&◌, not, nat_lt, nat_le, List, ◌++◌, map}
 use Rattle.std.specs.List.{range_with_len}
 use Rattle.sparse_rounds.specs.Kernels.{AreKernels, Kernels}
-use Rattle.sparse_rounds.specs.Masked.{IsStart, Run}
 use Rattle.sparse_rounds.specs.Dense.{AreZeroThresholds}
 
 -- a row: how many blocks and stages there are, by how many blocks to a list; what flows in at its low end; the thresholds of allocation and

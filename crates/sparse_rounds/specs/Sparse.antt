@@ -1,8 +1,7 @@
 -- The sparse buffers of one list of tasks, as a machine over rounds of letters: what is leased, what is worked, what comes.
-use Rattle.std.specs.Prelude.{◌≡◌, ◌==◌, ℕ, zero, suc, ◌+◌, ◌-◌, ◌*◌, ◌%◌, Bool, true, false, cond, ◌&&◌, ◌||◌, not, nat_lt, nat_le, Option, Some, None, is_some, List}
-use Rattle.std.specs.List.{list_any}
+use Rattle.std.specs.Prelude.{◌==◌, ℕ, zero, suc, ◌+◌, ◌-◌, ◌*◌, ◌%◌, Bool, true, false, cond, ◌&&◌, ◌||◌, not, nat_lt, Option, Some, None, is_some}
 use Rattle.cycle_rounds.specs.Plan.{Plan}
-use Rattle.cycle_rounds.specs.Events.{Machine, State}
+use Rattle.cycle_rounds.specs.Events.{Machine}
 use Rattle.sparse_rounds.specs.Kernels.{Kernels}
 use Rattle.sparse_rounds.specs.Masked.{Run, idle_next, is_called, is_freed}
 
