@@ -14,8 +14,8 @@ use Rattle.problem_set.specs.declared.entries.Reaction.{Reaction}
 use Rattle.mesh_rules.specs.Reaction.{added, after_reaction, before_reactions, moved_by, react_cell, taken}
 use Rattle.react_kernel.specs.Code.{CanReact}
 use Rattle.react_kernel.specs.Steps.{Moves, only_at}
-use Rattle.react_kernel.proofs.Lists.{at_added}
-use Rattle.react_kernel.proofs.Laws.{After, after_reactions, few_times, zero_at}
+use Rattle.react_kernel.specs.ReactionLists.{at_added}
+use Rattle.react_kernel.specs.ReactionLaws.{After, after_reactions, few_times, zero_at}
 
 abbrev at_none : ℕ × Flow
 at_none = (0, no_flow)
@@ -49,10 +49,10 @@ parts_none x m u e d = flow_same x (x.made + m) x.made (x.used + u) x.used (omeg
 pub reacted_none : (flows : List Flow) (cell : List ℕ) → length cell ≡ length flows → with_reacted flows (before_reactions cell) ≡ flows
 reacted_none flows cell many =
     ext_get_or no_flow (with_reacted flows (before_reactions cell)) flows (length_reacted flows (before_reactions cell)) (λ f h.
-      let n : length (with_reacted flows (before_reactions cell)) ≡ length flows = length_reacted flows (before_reactions cell) in
-      let z : slice_index (replicate (length cell) 0) f ≡ 0 = zero_at (length cell) f (omega arith) in
-      at_reacted flows (before_reactions cell) f (omega arith)
-      ∙ parts_none (slice_index_or flows f no_flow) (slice_index (replicate (length cell) 0) f) (slice_index (replicate (length cell) 0) f) z z)
+    let n : length (with_reacted flows (before_reactions cell)) ≡ length flows = length_reacted flows (before_reactions cell) in
+    let z : slice_index (replicate (length cell) 0) f ≡ 0 = zero_at (length cell) f (omega arith) in
+    at_reacted flows (before_reactions cell) f (omega arith)
+    ∙ parts_none (slice_index_or flows f no_flow) (slice_index (replicate (length cell) 0) f) (slice_index (replicate (length cell) 0) f) z z)
 
 -- one reaction more
 pub reacted_more : (flows now new : List Flow) (r : Reacted) (x : Reaction) → length r.made ≡ length flows → length r.used ≡ length flows → x.from < length flows → x.to < length flows
@@ -63,13 +63,13 @@ reacted_more flows now new r x made used from to is moves =
     let many : length now ≡ length flows = ap (λ (fs : List Flow). length fs) is ∙ length_reacted flows r in
     let all : length new ≡ length flows = moves.as_many ∙ many in
     ext_get_or no_flow new (with_reacted flows after) (all ∙ sym (length_reacted flows after)) (λ f h.
-      let old = slice_index_or flows f no_flow in
-      moves.each f (omega arith)
-      ∙ (ap (λ (flow : Flow). with_parts flow (only_at x.to m f) (only_at x.from m f)) (ap (λ (fs : List Flow). slice_index_or fs f no_flow) is ∙ at_reacted flows r f (omega arith))
-      ∙ (parts_twice old (slice_index r.made f) (slice_index r.used f) (only_at x.to m f) (only_at x.from m f)
-      ∙ (parts_same old (slice_index r.made f + only_at x.to m f) (slice_index after.made f) (slice_index r.used f + only_at x.from m f) (slice_index after.used f)
-          (sym (at_added r.made x.to m f (omega arith))) (sym (at_added r.used x.from m f (omega arith)))
-      ∙ sym (at_reacted flows after f (omega arith))))))
+    let old = slice_index_or flows f no_flow in
+    moves.each f (omega arith)
+    ∙ (ap (λ (flow : Flow). with_parts flow (only_at x.to m f) (only_at x.from m f)) (ap (λ (fs : List Flow). slice_index_or fs f no_flow) is ∙ at_reacted flows r f (omega arith))
+    ∙ (parts_twice old (slice_index r.made f) (slice_index r.used f) (only_at x.to m f) (only_at x.from m f)
+    ∙ (parts_same old (slice_index r.made f + only_at x.to m f) (slice_index after.made f) (slice_index r.used f + only_at x.from m f) (slice_index after.used f)
+    (sym (at_added r.made x.to m f (omega arith))) (sym (at_added r.used x.from m f (omega arith)))
+    ∙ sym (at_reacted flows after f (omega arith))))))
 
 -- the cell and its flows after some of the reactions
 pub record Applied (rs : List Reaction) (cell : List ℕ) (flows : List Flow) (k : ℕ) (cell_now : List ℕ) (flows_now : List Flow) : Type 0 where
@@ -101,7 +101,7 @@ applied_more fields rs cell flows k x cell_now cell_new flows_now flows_new many
       totals = cell_is ∙ (ap (λ (c : List ℕ). added (taken c x.from (moved_by x c)) x.to (moved_by x c)) had.totals ∙ ap (λ (s : Reacted). s.totals) (sym more));
       flows_are = reacted_more flows flows_now flows_new r x (omega arith) (omega arith) (omega arith) (omega arith) had.flows_are
           (subst (λ (c : List ℕ). Moves flows_now flows_new x.from x.to (moved_by x c)) had.totals moves)
-        ∙ ap (λ (s : Reacted). with_reacted flows s) (sym more);
+          ∙ ap (λ (s : Reacted). with_reacted flows s) (sym more);
     }
 
 -- the cell keeps its sum, so it stays small
@@ -130,12 +130,12 @@ applied_small fields rs cell flows k cell_now flows_now many as_many can few sma
     let a = after_reactions fields cell (take k rs) many (All-take (CanReact fields) k rs can) in
     let n : length (take k rs) ≤ 256 = omega (arith, length-take k rs) in
     subst (λ (fs : List Flow). All (IsBelow (2 ^ 100)) fs) (sym had.flows_are)
-      (All-from_get_or (IsBelow (2 ^ 100)) (with_reacted flows r) no_flow (λ f h.
-        let inside : f < length flows = (let e : length (with_reacted flows r) ≡ length flows = length_reacted flows r in omega arith) in
-        subst (λ (flow : Flow). IsBelow (2 ^ 100) flow) (sym (at_reacted flows r f inside))
-          (small_parts (slice_index_or flows f no_flow) (slice_index r.made f) (slice_index r.used f) (All-get_or (IsBelow (2 ^ 99)) flows f no_flow inside below)
-            (small_times (length (take k rs)) (sum cell) (slice_index r.made f) n small (a.made_most f (omega arith)))
-            (small_times (length (take k rs)) (sum cell) (slice_index r.used f) n small (a.used_most f (omega arith))))))
+    (All-from_get_or (IsBelow (2 ^ 100)) (with_reacted flows r) no_flow (λ f h.
+    let inside : f < length flows = (let e : length (with_reacted flows r) ≡ length flows = length_reacted flows r in omega arith) in
+    subst (λ (flow : Flow). IsBelow (2 ^ 100) flow) (sym (at_reacted flows r f inside))
+    (small_parts (slice_index_or flows f no_flow) (slice_index r.made f) (slice_index r.used f) (All-get_or (IsBelow (2 ^ 99)) flows f no_flow inside below)
+    (small_times (length (take k rs)) (sum cell) (slice_index r.made f) n small (a.made_most f (omega arith)))
+    (small_times (length (take k rs)) (sum cell) (slice_index r.used f) n small (a.used_most f (omega arith))))))
 
 -- after all of them
 pub applied_all : (rs : List Reaction) (cell : List ℕ) (flows : List Flow) (k : ℕ) (cell_now : List ℕ) (flows_now : List Flow) → length rs ≤ k → Applied rs cell flows k cell_now flows_now

@@ -1,4 +1,2 @@
-pub mod Lists
-pub mod Laws
 pub mod Flows
 pub mod Moved

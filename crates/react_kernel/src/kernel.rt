@@ -4,7 +4,7 @@ ghost use Rattle.mesh_num.specs.Portion.{portion};
 ghost use Rattle.mesh_rules.specs.Reaction.{added, taken};
 ghost use Rattle.react_kernel.specs.Code.{CanReact, code_of, reacts as reacts_by_code};
 ghost use Rattle.react_kernel.specs.Steps.{Moves};
-ghost use Rattle.react_kernel.proofs.Laws.{code_laws};
+ghost use Rattle.react_kernel.specs.ReactionLaws.{code_laws};
 
 use mesh_num::{NoMemory, portion};
 use package_fields::{CellKernel, Flow};

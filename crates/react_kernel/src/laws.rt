@@ -4,5 +4,4 @@ ghost use Rattle.react_kernel.specs.Code.{ReactionsLaw};
 /// each field balances.
 pub fn reactions_law()
     ensures { ReactionsLaw }
-{
-}
+{}

@@ -13,7 +13,9 @@ use std::alloc::Global;
 use std::io;
 
 const BLOCKS: u32 = 16_384;
+
 const FIELDS: u32 = 256;
+
 const CHANGES: u32 = 1_000_000;
 
 fn main(rt: HostRuntime) -> io::Result<()> {

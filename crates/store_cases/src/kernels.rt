@@ -26,11 +26,7 @@ const REACTIONS: [Reaction; 2] = [
 ];
 
 // What reactions make of a cell with a total of the first field, and what of that field is made and used.
-fn react(
-    alloc: Global,
-    reactions: &[Reaction],
-    total: u64,
-) -> Result<([u64; 2], Flow), NoMemory>
+fn react(alloc: Global, reactions: &[Reaction], total: u64) -> Result<([u64; 2], Flow), NoMemory>
     requires few { length reactions.now ≤ 256 }
     requires sound { All (CanReact 2) reactions.now }
     requires small { total < 2 ^ 62 }

@@ -43,10 +43,13 @@ pub record CycleTasks : Type 0 where
 abbrev pub stages_over : CycleTasks → Bool
 stages_over c = list_all (λ n. nat_le (6 * c.stages) n) c.completed
 
--- whether a task of a partition is ready: by those that it is after, and by its region, as the three last tasks
--- wait until the stages are over everywhere
+-- whether the region of a task has started: the three last tasks wait until the stages are over everywhere
+abbrev pub has_started : CycleTasks → ℕ → Bool
+has_started c task = nat_lt task (6 * c.stages) || stages_over c
+
+-- whether a task of a partition is ready, by those that it is after and by its region
 abbrev pub may_start : CycleTasks → ℕ → ℕ → Bool
-may_start c p task = is_ready (cycle_tasks c.stages (slice_index c.completed p)) (record { number = task }) && (nat_lt task (6 * c.stages) || stages_over c)
+may_start c p task = is_ready (cycle_tasks c.stages (slice_index c.completed p)) (record { number = task }) && has_started c task
 
 -- the least task of a partition that is ready
 abbrev pub next_of : CycleTasks → ℕ → Option ℕ

@@ -1,5 +1,5 @@
 ghost use Rattle.std.specs.Prelude.{◌≡◌, ◌≤◌, ◌<◌, IfOk, Some, length, replicate};
-ghost use Rattle.task_lists.specs.Cycle.{CycleTasks, next_of, with_next};
+ghost use Rattle.task_lists.specs.Cycle.{CycleTasks, next_of, stages_over, with_next};
 
 use crate::fault::NoMemory;
 use std::alloc::Global;
@@ -49,11 +49,21 @@ impl Collection {
     {
         let task = self.completed[p as usize];
         let last = 6 * self.stages;
-        if task < last || (self.waiting == 0 && task < last + 3) {
-            Some(task)
-        } else {
-            None
+        let count = last + 3;
+        if task >= count {
+            return None;
         }
+        if task < last {
+            return Some(task);
+        }
+        if self.is_over() { Some(task) } else { None }
+    }
+
+    /// Whether the stages are over on all partitions.
+    fn is_over(&self) -> bool
+        ensures { result ≡ stages_over self.now }
+    {
+        self.waiting == 0
     }
 
     /// Completes the next task of a partition.
@@ -62,7 +72,9 @@ impl Collection {
         requires next { next_of self.old p ≡ Some task }
         ensures { self.new ≡ with_next self.old p }
     {
-        self.completed[p as usize] = task + 1;
-        self.waiting -= usize::from(task + 1 == 6 * self.stages);
+        let last = 6 * self.stages;
+        let done = task + 1;
+        self.completed[p as usize] = done;
+        self.waiting -= usize::from(done == last);
     }
 }

@@ -117,10 +117,7 @@ impl TaskList {
 fn find_unknown(count: usize, after: &[TaskId]) -> Option<TaskId>
     ensures { result ≡ first_unknown count after.now }
 {
-    after
-        .iter()
-        .copied()
-        .find(|id| id.number as usize >= count)
+    after.iter().copied().find(|id| id.number as usize >= count)
 }
 
 /// Whether a task is in the list and complete.

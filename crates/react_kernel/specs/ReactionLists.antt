@@ -1,4 +1,4 @@
--- Numbers added and taken in lists.
+-- Proof, for the laws of the kernel: numbers added and taken in lists.
 use Rattle.std.proofs.Common.{◌≡◌, ◌≢◌, ◌∙◌, sym, ap, refl, inl, inr, ℕ, zero, suc, ◌+◌, ◌-◌, ◌*◌, ◌/◌, ◌<◌, ◌≤◌, ◌⊎◌, cond, nat_eq, List, [], ◌∷◌, length, replicate, slice_index, slice_set, sum, get_or, arith}
 use Rattle.std.proofs.Math.Nat.{div-mul-le_self, mul-le-mul_left, le_of_mul-le-mul_right}
 use Rattle.std.proofs.lemmas.Bool.{cases_eq, eq-eqb, ne_eqb, cond-true, cond-false}
@@ -17,36 +17,36 @@ only_there field amount f ne = cond-false (nat_eq f field) amount 0 (ne_eqb f fi
 
 pub at_added : (xs : List ℕ) (i n f : ℕ) → i < length xs → slice_index (added xs i n) f ≡ slice_index xs f + only_at i n f
 at_added xs i n f h = elim (cases_eq f i) [
-    inl e ↦ ap (λ (k : ℕ). slice_index (added xs i n) k) e
+  | inl e ↦ ap (λ (k : ℕ). slice_index (added xs i n) k) e
       ∙ (get_or-set_same xs i (slice_index xs i + n) 0 h
       ∙ (ap (λ (k : ℕ). slice_index xs k + n) (sym e)
       ∙ ap (λ (k : ℕ). slice_index xs f + k) (sym (only_here i n f e))))
   | inr ne ↦ get_or-set_other xs i f (slice_index xs i + n) 0 ne
       ∙ let z : only_at i n f ≡ 0 = only_there i n f ne in omega arith
-  ]
+]
 
 pub at_taken : (xs : List ℕ) (i n f : ℕ) → i < length xs → slice_index (taken xs i n) f ≡ slice_index xs f - only_at i n f
 at_taken xs i n f h = elim (cases_eq f i) [
-    inl e ↦ ap (λ (k : ℕ). slice_index (taken xs i n) k) e
+  | inl e ↦ ap (λ (k : ℕ). slice_index (taken xs i n) k) e
       ∙ (get_or-set_same xs i (slice_index xs i - n) 0 h
       ∙ (ap (λ (k : ℕ). slice_index xs k - n) (sym e)
       ∙ ap (λ (k : ℕ). slice_index xs f - k) (sym (only_here i n f e))))
   | inr ne ↦ get_or-set_other xs i f (slice_index xs i - n) 0 ne
       ∙ let z : only_at i n f ≡ 0 = only_there i n f ne in omega arith
-  ]
+]
 
 pub only_within : (xs : List ℕ) (i n f : ℕ) → n ≤ slice_index xs i → only_at i n f ≤ slice_index xs f
 only_within xs i n f h = elim (cases_eq f i) [
-    inl e ↦ let a : only_at i n f ≡ n = only_here i n f e in
+  | inl e ↦ let a : only_at i n f ≡ n = only_here i n f e in
       let b : slice_index xs f ≡ slice_index xs i = ap (λ (k : ℕ). slice_index xs k) e in omega arith
   | inr ne ↦ let a : only_at i n f ≡ 0 = only_there i n f ne in omega arith
-  ]
+]
 
 pub only_most : (i n f : ℕ) → only_at i n f ≤ n
 only_most i n f = elim (cases_eq f i) [
-    inl e ↦ let a : only_at i n f ≡ n = only_here i n f e in omega arith
+  | inl e ↦ let a : only_at i n f ≡ n = only_here i n f e in omega arith
   | inr ne ↦ let a : only_at i n f ≡ 0 = only_there i n f ne in omega arith
-  ]
+]
 
 pub sum_added : (xs : List ℕ) (i n : ℕ) → i < length xs → sum (added xs i n) ≡ sum xs + n
 sum_added xs i n h =
