@@ -45,3 +45,12 @@ returns-in_err-advance-clause-err g c =
     let within : c.cycles.run.cycle + 1 ≤ c.cycles.run.problem.nlim = grind (arith, c.cycles-test.ensures) in
     let limit : c.cycles.run.problem.nlim ≡ _ = ap (λ (p : Settings). p.nlim) c.cycles.invariant.0 in
     always_on_err _ (stops_at _ c.args.prefix.now (c.cycles.run.cycle + 1) _ _ _ (omega arith) c.cycles.invariant.2 c.in_err-advance.ensures.err)
+
+pub returns-in_err-advance-clause-write_cause : goal.returns-in_err-advance-clause-write_cause
+returns-in_err-advance-clause-write_cause g c = record {
+  later = omega (arith, c.in_err-advance.ensures.write_cause.later, c.cycles.invariant.6);
+  failed = λ h. let r = c.from_residual-in_err-advance.ensures in let f = c.in_err-advance.ensures.write_cause.failed in ?;
+}
+
+pub returns-in_err-advance-clause-reads_later : goal.returns-in_err-advance-clause-reads_later
+returns-in_err-advance-clause-reads_later g c = λ name. omega (arith, c.in_err-advance.ensures.reads_later name, c.cycles.invariant.5 name)
