@@ -22,13 +22,13 @@ record Above (k : ℕ) (s : Shape) (wanted : Loc → Bool) (l : Loc) : Type 0 wh
   is_forced : forced k s wanted m ≡ true
 
 -- what passes a test around a location touches it
-around-found : (s : Shape) (l : Loc) (p : Loc → Bool) → IsIn s l → list_any p (around s l) ≡ true → (m : Loc) × IsIn s m × AreNeighbours s l m × (p m ≡ true)
+pub around-found : (s : Shape) (l : Loc) (p : Loc → Bool) → IsIn s l → list_any p (around s l) ≡ true → (m : Loc) × IsIn s m × AreNeighbours s l m × (p m ≡ true)
 around-found s l p inside h = elim (or_cases (p l) (list_any p (neighbours s l)) h) [
   | inl here ↦ (l, inside, touching_self s l, here)
   | inr there ↦ let (m, touches, pass) = neighbours-found s l p inside there in (m, touches.inside, touches.touching, pass)
 ]
 
-around-has : (s : Shape) (l m : Loc) (p : Loc → Bool) → IsShape s → IsIn s l → IsIn s m → AreNeighbours s l m → p m ≡ true → list_any p (around s l) ≡ true
+pub around-has : (s : Shape) (l m : Loc) (p : Loc → Bool) → IsShape s → IsIn s l → IsIn s m → AreNeighbours s l m → p m ≡ true → list_any p (around s l) ≡ true
 around-has s l m p shape inside there near pass = elim (neighbours-has s l m p shape inside there near pass) [
   | inl here ↦ or_left (p l) (list_any p (neighbours s l)) here
   | inr among ↦ or_right (p l) (list_any p (neighbours s l)) among

@@ -265,25 +265,25 @@ unfolding leaves_of roots
 rising_leaves s inner shape = increasing _ _ (cube_leaves s inner (roots_in 16 s 0 0 0)) (rising_roots s inner shape 16 0 0 0 0 refl)
 
 -- an item of a list whose list passes
-any_append_left : (p : Loc → Bool) (xs ys : List Loc) → list_any p xs ≡ true → list_any p (xs ++ ys) ≡ true
+pub any_append_left : (p : Loc → Bool) (xs ys : List Loc) → list_any p xs ≡ true → list_any p (xs ++ ys) ≡ true
 any_append_left p [] ys h = absurd (false≢true h)
 any_append_left p (x ∷ xs) ys h = elim (or_cases (p x) (list_any p xs) h) [
   | inl here ↦ or_left (p x) (list_any p (xs ++ ys)) here
   | inr there ↦ or_right (p x) (list_any p (xs ++ ys)) (any_append_left p xs ys there)
 ]
 
-any_append_right : (p : Loc → Bool) (xs ys : List Loc) → list_any p ys ≡ true → list_any p (xs ++ ys) ≡ true
+pub any_append_right : (p : Loc → Bool) (xs ys : List Loc) → list_any p ys ≡ true → list_any p (xs ++ ys) ≡ true
 any_append_right p [] ys h = h
 any_append_right p (x ∷ xs) ys h = or_right (p x) (list_any p (xs ++ ys)) (any_append_right p xs ys h)
 
-any_flat : (p : Loc → Bool) (f : ℕ → List Loc) (a n j : ℕ) → a ≤ j → j < a + n → list_any p (f j) ≡ true → list_any p (flat_map f (range_with_len a n)) ≡ true
+pub any_flat : (p : Loc → Bool) (f : ℕ → List Loc) (a n j : ℕ) → a ≤ j → j < a + n → list_any p (f j) ≡ true → list_any p (flat_map f (range_with_len a n)) ≡ true
 any_flat p f a zero j low high h = absurd (omega arith)
 any_flat p f a (suc n) j low high h = elim (cases_eq a j) [
   | inl e ↦ any_append_left p (f a) (flat_map f (range_with_len (a + 1) n)) (ap (λ v. list_any p (f v)) e ∙ h)
   | inr d ↦ any_append_right p (f a) (flat_map f (range_with_len (a + 1) n)) (any_flat p f (a + 1) n j (omega arith) (omega arith) h)
 ]
 
-any_listed : (l r : Loc) (f : Loc → List Loc) (xs : List Loc) → list_any (same_loc r) xs ≡ true → list_any (same_loc l) (f r) ≡ true → list_any (same_loc l) (flat_map f xs) ≡ true
+pub any_listed : (l r : Loc) (f : Loc → List Loc) (xs : List Loc) → list_any (same_loc r) xs ≡ true → list_any (same_loc l) (f r) ≡ true → list_any (same_loc l) (flat_map f xs) ≡ true
 any_listed l r f [] h k = absurd (false≢true h)
 any_listed l r f (x ∷ xs) h k = elim (or_cases (same_loc r x) (list_any (same_loc r) xs) h) [
   | inl same ↦ any_append_left (same_loc l) (f x) (flat_map f xs) (ap (λ (v : Loc). list_any (same_loc l) (f v)) (sym (same_loc-is r x same)) ∙ k)
@@ -334,7 +334,7 @@ listed_here s inner shape tree l leaf (suc k) (suc d) x few top level =
     ∙ any_flat (same_loc l) (λ i. leaves_below k s.dims inner (child s.dims x i)) 0 (parts s.dims) j (omega arith) (omega arith) below
 
 -- each root is listed
-root_listed : (s : Shape) (r : Loc) → IsIn s r → r.level ≡ 0 → (k x y z : ℕ) → r.l1 / 2 ^ k ≡ x → r.l2 / 2 ^ k ≡ y → r.l3 / 2 ^ k ≡ z → list_any (same_loc r) (roots_in k s x y z) ≡ true
+pub root_listed : (s : Shape) (r : Loc) → IsIn s r → r.level ≡ 0 → (k x y z : ℕ) → r.l1 / 2 ^ k ≡ x → r.l2 / 2 ^ k ≡ y → r.l3 / 2 ^ k ≡ z → list_any (same_loc r) (roots_in k s x y z) ≡ true
 root_listed s r inside root zero x y z e1 e2 e3 =
     let a : r.l1 / 1 ≡ r.l1 = omega arith in
     let b : r.l2 / 1 ≡ r.l2 = omega arith in
@@ -362,15 +362,15 @@ root_listed s r inside root (suc k) x y z e1 e2 e3 =
     lower : (x n q : ℕ) → x / n ≡ q → q * n ≤ x
     lower x n q e = subst (λ v. v * n ≤ x) e (div-mul-le_self x n)
 
-leaf_listed : (s : Shape) (inner : Loc → Bool) → IsShape s → IsTree s inner → (l : Loc) → IsLeaf s inner l → is_listed (leaves_of s inner) l ≡ true
-unfolding leaves_of roots
-leaf_listed s inner shape tree l leaf =
+-- each location lies below a listed root
+pub root_of : (s : Shape) → IsShape s → (l : Loc) → IsIn s l → is_listed (roots s) (ancestor s.dims l.level l) ≡ true
+unfolding roots
+root_of s shape l there =
     let r : Loc = ancestor s.dims l.level l in
     let up = ancestor_level s.dims l.level l (omega arith) in
     let root : r.level ≡ 0 = omega arith in
-    let inside = ancestor_inside s l.level l leaf.inside (omega arith) in
-    let listed = root_listed s r inside root 16 0 0 0 (small_root s shape 0 r.l1 (lit< tt) (at_root s r root 0 inside.within1)) (small_root s shape 1 r.l2 (lit< tt) (at_root s r root 1 inside.within2)) (small_root s shape 2 r.l3 (lit< tt) (at_root s r root 2 inside.within3)) in
-    any_listed l r (leaves_below 10 s.dims inner) (roots_in 16 s 0 0 0) listed (listed_here s inner shape tree l leaf 10 l.level r (omega arith) refl (omega arith))
+    let inside = ancestor_inside s l.level l there (omega arith) in
+    root_listed s r inside root 16 0 0 0 (small_root s shape 0 r.l1 (lit< tt) (at_root s r root 0 inside.within1)) (small_root s shape 1 r.l2 (lit< tt) (at_root s r root 1 inside.within2)) (small_root s shape 2 r.l3 (lit< tt) (at_root s r root 2 inside.within3))
   where
     at_root : (s : Shape) (r : Loc) → r.level ≡ 0 → (axis : ℕ) {x : ℕ} → x < blocks_along s axis r.level → x < root_along s axis
     at_root s r root axis {x} h = let e : factor s.dims axis ^ r.level ≡ 1 = ap (λ v. factor s.dims axis ^ v) root ∙ pow-zero (factor s.dims axis) in
@@ -382,6 +382,13 @@ leaf_listed s inner shape tree l leaf =
         few : (b : Bool) (r : ℕ) → r ≤ cond b 65536 1 → x < r → x / 65536 ≡ 0
         few true r h less = omega arith
         few false r h less = omega arith
+
+leaf_listed : (s : Shape) (inner : Loc → Bool) → IsShape s → IsTree s inner → (l : Loc) → IsLeaf s inner l → is_listed (leaves_of s inner) l ≡ true
+unfolding leaves_of
+leaf_listed s inner shape tree l leaf =
+    let r : Loc = ancestor s.dims l.level l in
+    let up = ancestor_level s.dims l.level l (omega arith) in
+    any_listed l r (leaves_below 10 s.dims inner) (roots s) (root_of s shape l leaf.inside) (listed_here s inner shape tree l leaf 10 l.level r (omega arith) refl (omega arith))
 
 pub leaves_law : LeavesLaw
 leaves_law s inner shape tree = record {

@@ -14,23 +14,23 @@ use Rattle.block_tree.specs.Leaves.{begins_inside, leaves_below, leaves_of, piec
 use Rattle.block_tree.proofs.Ancestors.{parent_node, root_node}
 
 -- what holds of each item of a list
-abbrev Each : {X : Type 0} → (X → Type 0) → List X → Type 0
+abbrev pub Each : {X : Type 0} → (X → Type 0) → List X → Type 0
 Each P [] = Unit {0}
 Each P (x ∷ xs) = P x × Each P xs
 
-each_append : {X : Type 0} (P : X → Type 0) (xs ys : List X) → Each P xs → Each P ys → Each P (xs ++ ys)
+pub each_append : {X : Type 0} (P : X → Type 0) (xs ys : List X) → Each P xs → Each P ys → Each P (xs ++ ys)
 each_append P [] ys h k = k
 each_append P (x ∷ xs) ys h k = (h.0, each_append P xs ys h.1 k)
 
-each_flat : {X Y : Type 0} (P : Y → Type 0) (Q : X → Type 0) (f : X → List Y) → ((x : X) → Q x → Each P (f x)) → (xs : List X) → Each Q xs → Each P (flat_map f xs)
+pub each_flat : {X Y : Type 0} (P : Y → Type 0) (Q : X → Type 0) (f : X → List Y) → ((x : X) → Q x → Each P (f x)) → (xs : List X) → Each Q xs → Each P (flat_map f xs)
 each_flat P Q f h [] k = tt
 each_flat P Q f h (x ∷ xs) k = each_append P (f x) (flat_map f xs) (h x k.0) (each_flat P Q f h xs k.1)
 
-each_number : (P : ℕ → Type 0) → ((j : ℕ) → P j) → (a n : ℕ) → Each P (range_with_len a n)
+pub each_number : (P : ℕ → Type 0) → ((j : ℕ) → P j) → (a n : ℕ) → Each P (range_with_len a n)
 each_number P h a zero = tt
 each_number P h a (suc n) = (h a, each_number P h (a + 1) n)
 
-each_listed : (P : Loc → Type 0) (l : Loc) (xs : List Loc) → Each P xs → list_any (same_loc l) xs ≡ true → P l
+pub each_listed : (P : Loc → Type 0) (l : Loc) (xs : List Loc) → Each P xs → list_any (same_loc l) xs ≡ true → P l
 each_listed P l [] h k = absurd (false≢true k)
 each_listed P l (x ∷ xs) h k = elim (or_cases (same_loc l x) (list_any (same_loc l) xs) k) [
   | inl same ↦ subst P (sym (same_loc-is l x same)) h.0

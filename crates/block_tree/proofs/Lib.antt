@@ -7,3 +7,9 @@ pub mod Changes
 pub mod LeafList
 pub mod KeyOrder
 pub mod Next
+pub mod Places
+pub mod Lists
+pub mod Worklist
+pub mod Growing
+pub mod Counting
+pub mod InnerList

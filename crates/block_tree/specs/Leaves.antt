@@ -1,5 +1,5 @@
 -- The leaves of a tree in the order of their keys, and its inner nodes.
-use Rattle.std.specs.Prelude.{ℕ, zero, suc, ◌+◌, ◌*◌, ◌/◌, ◌%◌, ◌^◌, Bool, true, false, cond, ◌&&◌, nat_lt, List, [], ◌∷◌, ◌++◌, ◌↔◌, IsTrue, map}
+use Rattle.std.specs.Prelude.{◌≡◌, ℕ, zero, suc, ◌+◌, ◌*◌, ◌/◌, ◌%◌, ◌^◌, Bool, true, false, cond, ◌&&◌, nat_lt, List, [], ◌∷◌, ◌++◌, ◌↔◌, IsTrue, map}
 use Rattle.std.specs.List.{flat_map, range_with_len}
 use Rattle.std.specs.List.Sorted.{IsStrictlyIncreasing}
 use Rattle.morton_order.specs.declared.space.Loc.{Loc}
@@ -51,3 +51,7 @@ pub record AreLeavesInOrder (s : Shape) (inner : Loc → Bool) : Type 0 where
 
 abbrev pub LeavesLaw : Type 0
 LeavesLaw = (s : Shape) (inner : Loc → Bool) → IsShape s → IsTree s inner → AreLeavesInOrder s inner
+
+-- the listed inner nodes are the inner nodes of the tree
+abbrev pub InnersAreListed : Type 0
+InnersAreListed = (s : Shape) (inner : Loc → Bool) → IsShape s → IsTree s inner → (l : Loc) → is_listed (inner_of s inner) l ≡ inner l

@@ -1,7 +1,10 @@
 pub mod Change
+pub mod Around
 pub mod Behind
 pub mod Leaves
 pub mod Least
 pub mod Next
+pub mod Nodes
 pub mod Tree
 pub mod Worked
+pub mod Worklist

@@ -2,7 +2,7 @@
 
 ghost use Rattle.block_tree.specs.Behind.{BehindIsExact, BehindIsMutual};
 ghost use Rattle.block_tree.specs.Change.{ChangesByOneLevel};
-ghost use Rattle.block_tree.specs.Leaves.{LeavesLaw};
+ghost use Rattle.block_tree.specs.Leaves.{InnersAreListed, LeavesLaw};
 ghost use Rattle.block_tree.specs.Least.{LeastIsLeast, OpeningIsLeast};
 ghost use Rattle.block_tree.specs.Next.{NextIsLeast, NextIsNear};
 ghost use Rattle.block_tree.specs.Worked.{WorkedTrees};
@@ -39,4 +39,9 @@ pub fn leaves_law()
 /// Small trees, worked out: what boxes want, the opening and the next tree, and what is behind a side.
 pub fn worked_trees()
     ensures { WorkedTrees }
+{}
+
+/// The listed inner nodes are exactly the inner nodes of the tree.
+pub fn inner_nodes_law()
+    ensures { InnersAreListed }
 {}

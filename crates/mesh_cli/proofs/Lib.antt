@@ -1,2 +1,2 @@
-pub mod Causes
-pub mod Ending
+pub mod StepLemmas
+pub mod TopCallLemmas

@@ -1,5 +1,3 @@
-pub mod Causes
-pub mod Ends
-pub mod Outcomes
-pub mod Printing
+pub mod Steps
+pub mod TopCall
 pub mod Verdicts

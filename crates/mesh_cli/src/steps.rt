@@ -1,15 +1,14 @@
-ghost use Rattle.std.specs.Prelude.{◌≡◌, ℕ, ◌≤◌, true, List, map, string_bytes};
+ghost use Rattle.std.specs.Prelude.{◌≡◌, ◌≢◌, true, map, string_bytes};
 ghost use Rattle.std.specs.Option.{ForSome};
 ghost use Rattle.problem_set.specs.SettingsOf.{settings_of};
 ghost use Rattle.dense_model.specs.OfProblem.{is_built};
-ghost use Rattle.mesh_outside.specs.Fault.{Rose};
+ghost use Rattle.mesh_outside.specs.Depot.{AfterWrites};
 ghost use Rattle.mesh_outside.specs.Gained.{IsClosed};
 ghost use Rattle.mesh_words.specs.Arguments.{arguments_of};
 ghost use Rattle.mesh_words.specs.Seen.{seen_arguments};
 ghost use Rattle.mesh_input.specs.Input.{seen_input};
+ghost use Rattle.mesh_cli.specs.Steps.{AfterCall, AfterInput, EndsAccepted, EndsBy, EndsWith, RunEnds, outcome_of_fault, outcome_of_usage};
 ghost use Rattle.mesh_cli.specs.Verdicts.{verdict_on};
-ghost use Rattle.mesh_cli.specs.Ends.{EndsAccepted, EndsBy, EndsWith, RunEnds};
-ghost use Rattle.mesh_cli.specs.Outcomes.{outcome_of_fault, outcome_of_usage};
 
 use dense_model::is_built;
 use mesh_driver::{DriveFault, drive};
@@ -22,9 +21,9 @@ use std::alloc::Global;
 
 /// How a call with these words ends, before that is printed.
 pub fn outcome_of<D: Depot>(alloc: Global, words: &[String], depot: &mut D) -> Outcome
-    requires { ForSome (D.written depot.old) IsClosed }
-    ensures ends { EndsWith (arguments_of (map string_bytes words.now)) result (D.inputs depot.old) (λ name. Rose (D.read_faults depot.old name) (D.read_faults depot.new name)) (Rose (D.write_faults depot.old) (D.write_faults depot.new)) (D.written depot.old) (D.written depot.new) }
-    ensures inputs { D.inputs depot.new ≡ D.inputs depot.old }
+    requires { ForSome (D.seen depot.old).written IsClosed }
+    ensures ends { EndsWith (arguments_of (map string_bytes words.now)) result (D.seen depot.old) (D.seen depot.new) }
+    ensures after { AfterCall (arguments_of (map string_bytes words.now)) result (D.seen depot.old) (D.seen depot.new) }
 {
     match read_arguments(alloc, words) {
         Ok(arguments) => outcome_of_arguments(alloc, &arguments, depot),
@@ -48,9 +47,9 @@ fn outcome_of_arguments<'a, D: Depot>(
     arguments: &Arguments<'a>,
     depot: &mut D,
 ) -> Outcome
-    requires { ForSome (D.written depot.old) IsClosed }
-    ensures ends { EndsAccepted (seen_arguments arguments.now) result (D.inputs depot.old) (Rose (D.read_faults depot.old arguments.now.input.now) (D.read_faults depot.new arguments.now.input.now)) (Rose (D.write_faults depot.old) (D.write_faults depot.new)) (D.written depot.old) (D.written depot.new) }
-    ensures inputs { D.inputs depot.new ≡ D.inputs depot.old }
+    requires { ForSome (D.seen depot.old).written IsClosed }
+    ensures ends { EndsAccepted (seen_arguments arguments.now) result (D.seen depot.old) (D.seen depot.new) }
+    ensures after { AfterInput arguments.now.input.now result (D.seen depot.old) (D.seen depot.new) }
 {
     match accept_file(
         alloc,
@@ -82,11 +81,10 @@ fn outcome_of_input<D: Depot>(
     prefix: &str,
     depot: &mut D,
 ) -> Outcome
-    requires { ForSome (D.written depot.old) IsClosed }
-    ensures ends { EndsBy prefix.now (verdict_on listed (seen_input input)) result (Rose (D.write_faults depot.old) (D.write_faults depot.new)) (D.written depot.old) (D.written depot.new) }
-    ensures inputs { D.inputs depot.new ≡ D.inputs depot.old }
-    ensures writes_later { D.write_faults depot.old ≤ D.write_faults depot.new }
-    ensures reads_later { (name : List ℕ) → D.read_faults depot.old name ≤ D.read_faults depot.new name }
+    requires { ForSome (D.seen depot.old).written IsClosed }
+    ensures ends { EndsBy prefix.now (verdict_on listed (seen_input input)) result (D.seen depot.old).written (D.seen depot.new).written }
+    ensures read { result ≢ Outcome.ReadFault }
+    ensures after { AfterWrites (result ≡ Outcome.WriteFault) (D.seen depot.old) (D.seen depot.new) }
 {
     if listed {
         return Outcome::Listed { deck: input.deck };
@@ -107,11 +105,10 @@ fn outcome_of_run<D: Depot>(
     depot: &mut D,
 ) -> Outcome
     requires built { is_built (settings_of problem.now) ≡ true }
-    requires closed { ForSome (D.written depot.old) IsClosed }
-    ensures ends { RunEnds (settings_of problem.now) prefix.now result (Rose (D.write_faults depot.old) (D.write_faults depot.new)) (D.written depot.old) (D.written depot.new) }
-    ensures inputs { D.inputs depot.new ≡ D.inputs depot.old }
-    ensures writes_later { D.write_faults depot.old ≤ D.write_faults depot.new }
-    ensures reads_later { (name : List ℕ) → D.read_faults depot.old name ≤ D.read_faults depot.new name }
+    requires closed { ForSome (D.seen depot.old).written IsClosed }
+    ensures ends { RunEnds (settings_of problem.now) prefix.now result (D.seen depot.old).written (D.seen depot.new).written }
+    ensures read { result ≢ Outcome.ReadFault }
+    ensures after { AfterWrites (result ≡ Outcome.WriteFault) (D.seen depot.old) (D.seen depot.new) }
 {
     match drive(alloc, problem, prefix, depot) {
         Ok(end) => Outcome::Done {

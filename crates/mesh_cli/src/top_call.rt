@@ -1,10 +1,7 @@
-ghost use Rattle.std.specs.Prelude.{◌≡◌, map, string_bytes};
+ghost use Rattle.std.specs.Prelude.{map, string_bytes};
 ghost use Rattle.std.specs.Option.{ForSome};
-ghost use Rattle.mesh_outside.specs.Fault.{Rose};
 ghost use Rattle.mesh_outside.specs.Gained.{IsClosed};
-ghost use Rattle.mesh_words.specs.Arguments.{arguments_of};
-ghost use Rattle.mesh_cli.specs.Causes.{Completes, NamedRose};
-ghost use Rattle.mesh_cli.specs.Printing.{Ends};
+ghost use Rattle.mesh_cli.specs.TopCall.{Ends, outside};
 
 use crate::steps::outcome_of;
 use mesh_outcome::{Status, report};
@@ -19,13 +16,12 @@ pub fn mesh_plain<D: Depot, K: Sink>(
     depot: &mut D,
     out: &mut K,
 ) -> Status
-    requires { ForSome (D.written depot.old) IsClosed }
-    ensures ends { Ends (arguments_of (map string_bytes words.now)) result (D.inputs depot.old) (λ name. Rose (D.read_faults depot.old name) (D.read_faults depot.new name)) (Rose (D.write_faults depot.old) (D.write_faults depot.new)) (D.written depot.old) (D.written depot.new) (K.printed out.old) (K.printed out.new) }
-    ensures read_cause { result ≡ Status.ReadFault → NamedRose (arguments_of (map string_bytes words.now)) (λ name. Rose (D.read_faults depot.old name) (D.read_faults depot.new name)) }
-    ensures write_cause { result ≡ Status.WriteFault → Rose (D.write_faults depot.old) (D.write_faults depot.new) }
-    ensures print_cause { result ≡ Status.PrintFault → Rose (K.faults out.old) (K.faults out.new) }
-    ensures complete { Completes (arguments_of (map string_bytes words.now)) (D.inputs depot.old) (λ name. Rose (D.read_faults depot.old name) (D.read_faults depot.new name)) (Rose (D.write_faults depot.old) (D.write_faults depot.new)) (Rose (K.faults out.old) (K.faults out.new)) result }
-    ensures inputs { D.inputs depot.new ≡ D.inputs depot.old }
+    requires { ForSome (D.seen depot.old).written IsClosed }
+    ensures {
+        let before = outside (D.seen depot.old) (K.seen out.old) in
+        let after = outside (D.seen depot.new) (K.seen out.new) in
+        Ends (map string_bytes words.now) before after result
+    }
 {
     let outcome = outcome_of(alloc, words, depot);
     report(alloc, &outcome, out)

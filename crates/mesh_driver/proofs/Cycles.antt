@@ -10,7 +10,7 @@ use Rattle.mesh_rules.specs.Files.{dump_file_name, is_dumped}
 use Rattle.mesh_outside.specs.declared.files.Gained.{Gained}
 use Rattle.mesh_outside.specs.Gained.{IsClosed, Gains, GainsPrefix}
 use Rattle.mesh_driver.specs.Files.{whole_file, dump_of, files_at, files_of}
-use Rattle.mesh_driver.proofs.Gaining.{closed_after, gains_more, gains_cut_more}
+use Rattle.mesh_driver.proofs.Gaining.{closed_after, gains_more, gains_prefix_more}
 
 -- numbers in a row, and those behind them
 range_split : (a n m k b : ℕ) → k ≡ n + m → b ≡ a + n → range_with_len a k ≡ range_with_len a n ++ range_with_len b m
@@ -70,7 +70,7 @@ gains_next p prefix n m a b c next first second =
 -- writing stopped among the files of a cycle
 pub stops_at : (p : Settings) (prefix : List ℕ) (n : ℕ) (a b c : Option (List Gained)) → n ≤ p.nlim → Gains a b (files_before p prefix n) → GainsPrefix b c (files_at p prefix n) → GainsPrefix a c (files_of p prefix)
 stops_at p prefix n a b c within first stopped =
-    gains_cut_more a b c (files_of p prefix) (files_before p prefix n) (files_at p prefix n) (files_among p prefix (range_with_len (n + 1) (p.nlim - n)))
+    gains_prefix_more a b c (files_of p prefix) (files_before p prefix n) (files_at p prefix n) (files_among p prefix (range_with_len (n + 1) (p.nlim - n)))
     (all_split p prefix n within) first stopped
 
 -- before the opening nothing is gained
@@ -114,8 +114,9 @@ nothing_gained None = refl
 nothing_gained (Some w) = ap Some (sym (append-nil w))
 
 -- writing stopped before the first file
-pub nothing_cut : (a : Option (List Gained)) (files : List Gained) → GainsPrefix a a files
-nothing_cut a files = record { cut = []; is_cut = inl (record { others = files; together = refl }); gained = nothing_gained a }
+pub nothing_of_run : (p : Settings) (prefix : List ℕ) (a : Option (List Gained)) → GainsPrefix a a (files_of p prefix)
+nothing_of_run p prefix a =
+    stops_at_opening p prefix a a (record { prefix = []; is_prefix = inl (record { missing = dump_of p prefix 0; others = []; together = refl }); gained = nothing_gained a })
 
 -- whether a dump is due after one cycle more
 due_next : (p : Settings) (r s : RunAt) (n : ℕ) (b due : Bool) → s ≡ record r { cycle = r.cycle + 1 } → n ≡ s.cycle → b ≡ is_dumped p n → b ≡ due → is_dumped p (r.cycle + 1) ≡ due

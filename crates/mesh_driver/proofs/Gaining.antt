@@ -21,33 +21,34 @@ closed_after (Some v) b xs gains closed whole = λ w is.
     let joined : v ++ xs ≡ w = cc in
     subst IsClosed joined (All-append (λ file. IsTrue file.whole) v xs (closed v refl) whole)
 
--- a cut of some files, behind others before them and with others after them
-pub cut_within : (files xs ys others cut : List Gained) → files ≡ (xs ++ ys) ++ others → IsPrefix ys cut → IsPrefix files (xs ++ cut)
-cut_within files xs ys others cut all (inl first) = inl (record {
+-- a prefix of some files, behind others before them and with others after them
+pub prefix_within : (files xs ys others gained : List Gained) → files ≡ (xs ++ ys) ++ others → IsPrefix ys gained → IsPrefix files (xs ++ gained)
+prefix_within files xs ys others gained all (inl first) = inl (record {
+  missing = first.missing;
   others = first.others ++ others;
-  together = append_assoc xs cut (first.others ++ others)
-      ∙ ap (λ w. xs ++ w) (sym (append_assoc cut first.others others) ∙ ap (λ w. w ++ others) first.together)
+  together = append_assoc xs gained (first.missing ∷ (first.others ++ others))
+      ∙ ap (λ w. xs ++ w) (sym (append_assoc gained (first.missing ∷ first.others) others) ∙ ap (λ w. w ++ others) first.together)
       ∙ sym (append_assoc xs ys others)
       ∙ sym all;
 })
-cut_within files xs ys others cut all (inr stopped) = inr (record {
-  front = xs ++ stopped.front;
+prefix_within files xs ys others gained all (inr stopped) = inr (record {
+  first = xs ++ stopped.first;
   file = stopped.file;
   part = stopped.part;
   others = stopped.others ++ others;
   is_part = stopped.is_part;
-  gained_are = ap (λ w. xs ++ w) stopped.gained_are ∙ sym (append_assoc xs stopped.front (stopped.part ∷ []));
+  gained_are = ap (λ w. xs ++ w) stopped.gained_are ∙ sym (append_assoc xs stopped.first (stopped.part ∷ []));
   files_are = all
       ∙ ap (λ w. (xs ++ w) ++ others) stopped.files_are
-      ∙ append_assoc xs (stopped.front ++ stopped.file ∷ stopped.others) others
-      ∙ ap (λ w. xs ++ w) (append_assoc stopped.front (stopped.file ∷ stopped.others) others)
-      ∙ sym (append_assoc xs stopped.front (stopped.file ∷ (stopped.others ++ others)));
+      ∙ append_assoc xs (stopped.first ++ stopped.file ∷ stopped.others) others
+      ∙ ap (λ w. xs ++ w) (append_assoc stopped.first (stopped.file ∷ stopped.others) others)
+      ∙ sym (append_assoc xs stopped.first (stopped.file ∷ (stopped.others ++ others)));
 })
 
 -- writing that stops among later files
-pub gains_cut_more : (a b c : Option (List Gained)) (files xs ys others : List Gained) → files ≡ (xs ++ ys) ++ others → Gains a b xs → GainsPrefix b c ys → GainsPrefix a c files
-gains_cut_more a b c files xs ys others all first stopped = record {
-  cut = xs ++ stopped.cut;
-  is_cut = cut_within files xs ys others stopped.cut all stopped.is_cut;
-  gained = gains_more a b c xs stopped.cut first stopped.gained;
+pub gains_prefix_more : (a b c : Option (List Gained)) (files xs ys others : List Gained) → files ≡ (xs ++ ys) ++ others → Gains a b xs → GainsPrefix b c ys → GainsPrefix a c files
+gains_prefix_more a b c files xs ys others all first stopped = record {
+  prefix = xs ++ stopped.prefix;
+  is_prefix = prefix_within files xs ys others stopped.prefix all stopped.is_prefix;
+  gained = gains_more a b c xs stopped.prefix first stopped.gained;
 }

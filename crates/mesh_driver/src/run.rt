@@ -1,9 +1,9 @@
-ghost use Rattle.std.specs.Prelude.{◌≡◌, ℕ, ◌+◌, ◌<◌, ◌≤◌, true, List, [], ◌∷◌, IfOk, OnOk, OnErr};
+ghost use Rattle.std.specs.Prelude.{◌≡◌, ◌+◌, ◌<◌, true, [], ◌∷◌, Err, IfOk, OnOk, OnErr};
 ghost use Rattle.std.specs.Option.{ForSome};
 ghost use Rattle.problem_set.specs.SettingsOf.{settings_of};
 ghost use Rattle.dense_model.specs.OfProblem.{is_built};
+ghost use Rattle.mesh_outside.specs.Depot.{AfterWrites};
 ghost use Rattle.mesh_outside.specs.Gained.{IsClosed, Gains, GainsPrefix};
-ghost use Rattle.mesh_driver.specs.Fault.{HasWriteCause};
 ghost use Rattle.mesh_driver.specs.Files.{dump_of, end_of, files_at, files_of};
 
 use crate::DriveFault;
@@ -24,7 +24,7 @@ pub struct RunEnd {
 }
 
 /// Runs a problem to its last cycle, and writes its dumps. Their names begin with the prefix. After a
-/// refusal the depot gained some of the first of these files, the last one perhaps cut.
+/// refusal the depot gained a prefix of these files, the last one perhaps unfinished, and not all of them.
 pub fn drive<D: Depot>(
     alloc: Global,
     problem: &Problem,
@@ -32,13 +32,11 @@ pub fn drive<D: Depot>(
     depot: &mut D,
 ) -> Result<RunEnd, DriveFault>
     requires built { is_built (settings_of problem.now) ≡ true }
-    requires closed { ForSome (D.written depot.old) IsClosed }
-    ensures ok { OnOk result (Gains (D.written depot.old) (D.written depot.new) (files_of (settings_of problem.now) prefix.now)) }
+    requires closed { ForSome (D.seen depot.old).written IsClosed }
+    ensures ok { OnOk result (Gains (D.seen depot.old).written (D.seen depot.new).written (files_of (settings_of problem.now) prefix.now)) }
     ensures end { IfOk result (λ end. end ≡ end_of (settings_of problem.now)) }
-    ensures err { OnErr result (GainsPrefix (D.written depot.old) (D.written depot.new) (files_of (settings_of problem.now) prefix.now)) }
-    ensures inputs { D.inputs depot.new ≡ D.inputs depot.old }
-    ensures write_cause { HasWriteCause (D.write_faults depot.old) (D.write_faults depot.new) result }
-    ensures reads_later { (name : List ℕ) → D.read_faults depot.old name ≤ D.read_faults depot.new name }
+    ensures err { OnErr result (GainsPrefix (D.seen depot.old).written (D.seen depot.new).written (files_of (settings_of problem.now) prefix.now)) }
+    ensures after { AfterWrites (result ≡ Err DriveFault.WriteFault) (D.seen depot.old) (D.seen depot.new) }
 {
     let mut run = DenseRun::start(alloc, problem)?;
     write_dump(alloc, &run, prefix, depot)?;
@@ -62,13 +60,11 @@ fn advance<'a, D: Depot>(
 ) -> Result<(), DriveFault>
     requires same { run.old.problem ≡ settings_of problem.now }
     requires unfinished { run.old.cycle < run.old.problem.nlim }
-    requires closed { ForSome (D.written depot.old) IsClosed }
+    requires closed { ForSome (D.seen depot.old).written IsClosed }
     ensures next { run.new ≡ record run.old { cycle = run.old.cycle + 1 } }
-    ensures ok { OnOk result (Gains (D.written depot.old) (D.written depot.new) (files_at (settings_of problem.now) prefix.now (run.old.cycle + 1))) }
-    ensures err { OnErr result (GainsPrefix (D.written depot.old) (D.written depot.new) (files_at (settings_of problem.now) prefix.now (run.old.cycle + 1))) }
-    ensures inputs { D.inputs depot.new ≡ D.inputs depot.old }
-    ensures write_cause { HasWriteCause (D.write_faults depot.old) (D.write_faults depot.new) result }
-    ensures reads_later { (name : List ℕ) → D.read_faults depot.old name ≤ D.read_faults depot.new name }
+    ensures ok { OnOk result (Gains (D.seen depot.old).written (D.seen depot.new).written (files_at (settings_of problem.now) prefix.now (run.old.cycle + 1))) }
+    ensures err { OnErr result (GainsPrefix (D.seen depot.old).written (D.seen depot.new).written (files_at (settings_of problem.now) prefix.now (run.old.cycle + 1))) }
+    ensures after { AfterWrites (result ≡ Err DriveFault.WriteFault) (D.seen depot.old) (D.seen depot.new) }
 {
     let _ = run.cycle();
     if is_dumped(problem, run.cycles()) {
@@ -85,12 +81,10 @@ fn write_dump<'a, D: Depot>(
     prefix: &str,
     depot: &mut D,
 ) -> Result<(), DriveFault>
-    requires { ForSome (D.written depot.old) IsClosed }
-    ensures ok { OnOk result (Gains (D.written depot.old) (D.written depot.new) (dump_of run.now.problem prefix.now run.now.cycle ∷ [])) }
-    ensures err { OnErr result (GainsPrefix (D.written depot.old) (D.written depot.new) (dump_of run.now.problem prefix.now run.now.cycle ∷ [])) }
-    ensures inputs { D.inputs depot.new ≡ D.inputs depot.old }
-    ensures write_cause { HasWriteCause (D.write_faults depot.old) (D.write_faults depot.new) result }
-    ensures reads_later { (name : List ℕ) → D.read_faults depot.old name ≤ D.read_faults depot.new name }
+    requires { ForSome (D.seen depot.old).written IsClosed }
+    ensures ok { OnOk result (Gains (D.seen depot.old).written (D.seen depot.new).written (dump_of run.now.problem prefix.now run.now.cycle ∷ [])) }
+    ensures err { OnErr result (GainsPrefix (D.seen depot.old).written (D.seen depot.new).written (dump_of run.now.problem prefix.now run.now.cycle ∷ [])) }
+    ensures after { AfterWrites (result ≡ Err DriveFault.WriteFault) (D.seen depot.old) (D.seen depot.new) }
 {
     let name = dump_file_name(alloc, prefix, run.cycles())?;
     let text = run.dump()?;

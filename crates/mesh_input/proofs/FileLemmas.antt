@@ -10,12 +10,18 @@ use Rattle.input_file.specs.Blocks.{Blocks}
 use Rattle.input_file.specs.Decks.{and_then, deck, deck_of_text, greatest_length}
 use Rattle.input_file.specs.declared.fault.DeckFault.{DeckFault}
 use Rattle.input_file.specs.declared.fault.DeckFault.TheVariants.{NotText, TooLong}
+use Rattle.mesh_outside.specs.declared.fault.OutFault.{OutFault}
+use Rattle.mesh_outside.specs.declared.fault.OutFault.TheVariants.{Failed, NoMemory as out_memory}
 use Rattle.mesh_outside.specs.declared.files.File.{File}
-use Rattle.mesh_outside.specs.Files.{input_of, IsInput, ReadsInput}
+use Rattle.mesh_outside.specs.Depot.{DepotSeen, AfterReads}
+use Rattle.mesh_outside.specs.Files.{input_of}
+use Rattle.mesh_outside.specs.Reading.{IsInput, ReadsInput}
 use Rattle.mesh_input.specs.declared.input.Input.{Input}
 use Rattle.mesh_input.specs.declared.fault.Refusal.{Refusal}
 use Rattle.mesh_input.specs.declared.fault.InputFault.{InputFault}
 use Rattle.mesh_input.specs.declared.fault.InputFault.TheVariants.{Refused, ReadFault, NoMemory}
+use Rattle.mesh_outside.proofs.Afters.{reads_as}
+use Rattle.mesh_input.specs.Fault.{stop_of_reading}
 use Rattle.mesh_input.specs.Input.{SeenInput, accepted_input, input_of_deck, or_deck_fault, overridden_by}
 use Rattle.mesh_input.specs.Input.{Answers, seen_input}
 use Rattle.mesh_input.specs.File.{AnswersFile, Gives}
@@ -86,3 +92,8 @@ no_read_fault (Ok input) given told is = cc
 no_read_fault (Err (Refused r)) given told is = cc
 no_read_fault (Err ReadFault) given told is = absurd told
 no_read_fault (Err NoMemory) given told is = cc
+
+-- a fault of reading is one of the file where the read failed
+pub reading_stops : {T : Type 0} (name : List ℕ) (fault : OutFault) (stop : InputFault) (a b : DepotSeen) → stop ≡ stop_of_reading fault → AfterReads name (◌≡◌ {A = Result T OutFault} (Err fault) (Err Failed)) a b → AfterReads name (◌≡◌ {A = Result Input InputFault} (Err stop) (Err ReadFault)) a b
+reading_stops name Failed stop a b is after = reads_as name _ _ a b after (λ _. ap Err is) (λ _. refl)
+reading_stops name out_memory stop a b is after = reads_as name _ _ a b after (λ e. cc) (λ e. cc)

@@ -1,8 +1,7 @@
 -- What the file of a name gives with the overrides.
-use Rattle.std.specs.Prelude.{◌≡◌, ℕ, ◌≤◌, List, Option, Some, None, Result, Ok, Err}
+use Rattle.std.specs.Prelude.{◌≡◌, ℕ, List, Option, Some, None, Result, Ok, Err}
 use Rattle.input_file.specs.Texts.{Text}
 use Rattle.mesh_outside.specs.declared.files.File.{File}
-use Rattle.mesh_outside.specs.Fault.{Rose}
 use Rattle.mesh_outside.specs.Files.{input_of}
 use Rattle.mesh_input.specs.declared.input.Input.{Input}
 use Rattle.mesh_input.specs.declared.fault.Refusal.{Refusal}
@@ -27,8 +26,3 @@ AnswersFile inputs name overrides (Ok input) = Gives inputs name overrides (Ok (
 AnswersFile inputs name overrides (Err (Refused refusal)) = Gives inputs name overrides (Err refusal)
 AnswersFile inputs name overrides (Err ReadFault) = Unit {0}
 AnswersFile inputs name overrides (Err NoMemory) = Unit {0}
-
--- the count of read faults did not fall, and it rose where the answer is a fault of reading
-pub record HasReadCause {T : Type 0} (before now : ℕ) (result : Result T InputFault) : Type 0 where
-  pub later : before ≤ now
-  pub failed : result ≡ Err ReadFault → Rose before now

@@ -1,5 +1,6 @@
-ghost use Rattle.std.specs.Prelude.{◌≡◌, ℕ, ◌≤◌, List, map};
-ghost use Rattle.mesh_input.specs.File.{AnswersFile, HasReadCause};
+ghost use Rattle.std.specs.Prelude.{◌≡◌, Err, map};
+ghost use Rattle.mesh_outside.specs.Depot.{AfterReads};
+ghost use Rattle.mesh_input.specs.File.{AnswersFile};
 
 use crate::fault::{InputFault, stop_of_reading};
 use crate::input::{Input, accept_bytes};
@@ -17,12 +18,8 @@ pub fn accept_file<D: Depot>(
     name: &str,
     overrides: &[&str],
 ) -> Result<Input, InputFault>
-    ensures answer { AnswersFile (D.inputs depot.old) name.now (map (λ t. t.now) overrides.now) result }
-    ensures inputs { D.inputs depot.new ≡ D.inputs depot.old }
-    ensures written { D.written depot.new ≡ D.written depot.old }
-    ensures read_cause { HasReadCause (D.read_faults depot.old name.now) (D.read_faults depot.new name.now) result }
-    ensures reads_later { (other : List ℕ) → D.read_faults depot.old other ≤ D.read_faults depot.new other }
-    ensures writes_later { D.write_faults depot.old ≤ D.write_faults depot.new }
+    ensures answer { AnswersFile (D.seen depot.old).inputs name.now (map (λ t. t.now) overrides.now) result }
+    ensures after { AfterReads name.now (result ≡ Err InputFault.ReadFault) (D.seen depot.old) (D.seen depot.new) }
 {
     match read_input(alloc, depot, name, LIMIT) {
         Ok(bytes) => accept_bytes(alloc, bytes.as_slice(), overrides),

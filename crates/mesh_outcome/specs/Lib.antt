@@ -3,3 +3,4 @@ pub mod Outcome
 pub mod Printing
 pub mod RefusalWords
 pub mod Status
+pub mod Text

@@ -23,3 +23,13 @@ text_of (outcome.Refused r) = line (codes "refused: " ++ refusal_words r)
 text_of outcome.ReadFault = line (codes "read fault")
 text_of outcome.WriteFault = line (codes "write fault")
 text_of outcome.NoMemory = line (codes "no memory")
+
+-- the line of an outcome has no number and no name in it
+abbrev pub IsFixed : Outcome → Type 0
+IsFixed (outcome.Done cycles blocks total) = ⊥
+IsFixed (outcome.Listed deck) = ⊥
+IsFixed (outcome.Usage fault) = Unit {0}
+IsFixed (outcome.Refused r) = ⊥
+IsFixed outcome.ReadFault = Unit {0}
+IsFixed outcome.WriteFault = Unit {0}
+IsFixed outcome.NoMemory = Unit {0}

@@ -10,8 +10,10 @@ mod outcome;
 mod printing;
 mod refusal_words;
 mod status;
+mod text;
 
 pub use lines::text_of;
 pub use outcome::Outcome;
 pub use printing::report;
 pub use status::Status;
+pub use text::Text;

@@ -1,21 +1,23 @@
-ghost use Rattle.std.specs.Prelude.{◌≡◌, ◌++◌, codes, IfOk, string_bytes};
-ghost use Rattle.mesh_outcome.specs.Lines.{done_words, line, text_of};
-ghost use Rattle.mesh_outcome.specs.RefusalWords.{refusal_words, usage_words};
+ghost use Rattle.std.specs.Prelude.{◌≡◌, ◌++◌, Ok, codes, IfOk, IsOk, string_bytes};
+ghost use Rattle.mesh_outcome.specs.Lines.{IsFixed, done_words, line, text_of};
+ghost use Rattle.mesh_outcome.specs.RefusalWords.{refusal_words};
+ghost use Rattle.mesh_outcome.specs.Text.{bytes_of};
 
-use crate::Outcome;
-use crate::refusal_words::{refusal_words, usage_words};
+use crate::refusal_words::{refusal_words, usage_line};
+use crate::{Outcome, Text};
 use mesh_input::Refusal;
 use mesh_num::NoMemory;
-use mesh_words::UsageFault;
 use std::alloc::Global;
 
-/// What is printed of an outcome: its line, or the text of the deck that is listed.
-pub fn text_of(alloc: Global, outcome: &Outcome) -> Result<Vec<u8>, NoMemory>
-    ensures { IfOk result (λ text. text.items ≡ text_of outcome.now) }
+/// What is printed of an outcome: its line, or the text of the deck that is listed. A line of no number and no name takes no
+/// memory.
+pub fn text_of(alloc: Global, outcome: &Outcome) -> Result<Text, NoMemory>
+    ensures text { IfOk result (λ text. bytes_of text ≡ text_of outcome.now) }
+    ensures fixed { IsFixed outcome.now → IsOk result }
 {
     match outcome {
         Outcome::Listed { deck } => match deck.print() {
-            Ok(text) => Ok(text),
+            Ok(text) => Ok(Text::Made { text }),
             Err(_) => Err(NoMemory),
         },
         Outcome::Done {
@@ -23,31 +25,29 @@ pub fn text_of(alloc: Global, outcome: &Outcome) -> Result<Vec<u8>, NoMemory>
             blocks,
             total,
         } => done_line(alloc, *cycles, *blocks, *total),
-        Outcome::Usage { fault } => usage_line(alloc, *fault),
+        Outcome::Usage { fault } => fixed(usage_line(*fault)),
         Outcome::Refused { refusal } => refusal_line(alloc, refusal),
-        Outcome::ReadFault => bytes_of(alloc, "read fault\n"),
-        Outcome::WriteFault => bytes_of(alloc, "write fault\n"),
-        Outcome::NoMemory => bytes_of(alloc, "no memory\n"),
+        Outcome::ReadFault => fixed("read fault\n"),
+        Outcome::WriteFault => fixed("write fault\n"),
+        Outcome::NoMemory => fixed("no memory\n"),
     }
 }
 
-fn done_line(alloc: Global, cycles: u32, blocks: u32, total: u64) -> Result<Vec<u8>, NoMemory>
-    ensures { IfOk result (λ text. text.items ≡ line (done_words cycles blocks total)) }
+fn fixed(line: &'static str) -> Result<Text, NoMemory>
+    ensures { result ≡ Ok (Text.Fixed line.entry) }
+{
+    Ok(Text::Fixed { line })
+}
+
+fn done_line(alloc: Global, cycles: u32, blocks: u32, total: u64) -> Result<Text, NoMemory>
+    ensures { IfOk result (λ text. bytes_of text ≡ line (done_words cycles blocks total)) }
 {
     let words = format!(in alloc; "done cycles={cycles} blocks={blocks} total={total}")?;
     line_of(words)
 }
 
-fn usage_line(alloc: Global, fault: UsageFault) -> Result<Vec<u8>, NoMemory>
-    ensures { IfOk result (λ text. text.items ≡ line (codes "usage: " ++ usage_words fault)) }
-{
-    let rule = usage_words(fault);
-    let words = format!(in alloc; "usage: {rule}")?;
-    line_of(words)
-}
-
-fn refusal_line(alloc: Global, refusal: &Refusal) -> Result<Vec<u8>, NoMemory>
-    ensures { IfOk result (λ text. text.items ≡ line (codes "refused: " ++ refusal_words refusal.now)) }
+fn refusal_line(alloc: Global, refusal: &Refusal) -> Result<Text, NoMemory>
+    ensures { IfOk result (λ text. bytes_of text ≡ line (codes "refused: " ++ refusal_words refusal.now)) }
 {
     let cause = refusal_words(alloc, refusal)?;
     let words = format!(in alloc; "refused: {cause}")?;
@@ -55,16 +55,12 @@ fn refusal_line(alloc: Global, refusal: &Refusal) -> Result<Vec<u8>, NoMemory>
 }
 
 // The bytes of a line with these words.
-fn line_of(words: String) -> Result<Vec<u8>, NoMemory>
-    ensures { IfOk result (λ text. text.items ≡ line (string_bytes words)) }
+fn line_of(words: String) -> Result<Text, NoMemory>
+    ensures { IfOk result (λ text. bytes_of text ≡ line (string_bytes words)) }
 {
     let mut text = words;
     text.push('\n')?;
-    Ok(text.into_bytes())
-}
-
-fn bytes_of(alloc: Global, words: &str) -> Result<Vec<u8>, NoMemory>
-    ensures { IfOk result (λ text. text.items ≡ words.now) }
-{
-    Ok(String::from_str(alloc, words)?.into_bytes())
+    Ok(Text::Made {
+        text: text.into_bytes(),
+    })
 }

@@ -1,6 +1,5 @@
 ghost use Rattle.std.specs.Prelude.{◌≡◌};
-ghost use Rattle.mesh_outside.specs.Fault.{Rose};
-ghost use Rattle.mesh_outcome.specs.Printing.{Prints, Tells};
+ghost use Rattle.mesh_outcome.specs.Printing.{AfterReport, AfterText, Prints, Tells};
 
 use crate::{Outcome, Status, text_of};
 use mesh_outside::{OutFault, Sink};
@@ -9,11 +8,11 @@ use std::alloc::Global;
 /// Prints how a call ended, and answers its status. Where no memory is left for its line, or printing
 /// fails, that is the status.
 pub fn report<K: Sink>(alloc: Global, outcome: &Outcome, out: &mut K) -> Status
-    ensures told { Tells outcome.now result (K.printed out.old) (K.printed out.new) }
-    ensures cause { result ≡ Status.PrintFault → Rose (K.faults out.old) (K.faults out.new) }
+    ensures told { Tells outcome.now result (K.seen out.old).printed (K.seen out.new).printed }
+    ensures after { AfterReport outcome.now result (K.seen out.old) (K.seen out.new) }
 {
     match text_of(alloc, outcome) {
-        Ok(text) => print(text.as_slice(), outcome.status(), out),
+        Ok(text) => print(text.as_bytes(), outcome.status(), out),
         Err(_) => print(b"no memory\n", Status::NoMemory, out),
     }
 }
@@ -21,8 +20,8 @@ pub fn report<K: Sink>(alloc: Global, outcome: &Outcome, out: &mut K) -> Status
 // Prints the text of a status. Where that fails, the status is that of printing.
 fn print<K: Sink>(text: &[u8], status: Status, out: &mut K) -> Status
     requires { status ≡ Status.PrintFault → ⊥ }
-    ensures printed { Prints text.now status result (K.printed out.old) (K.printed out.new) }
-    ensures cause { result ≡ Status.PrintFault → Rose (K.faults out.old) (K.faults out.new) }
+    ensures printed { Prints text.now status result (K.seen out.old).printed (K.seen out.new).printed }
+    ensures after { AfterText status result (K.seen out.old) (K.seen out.new) }
 {
     match out.print(text) {
         Ok(()) => status,

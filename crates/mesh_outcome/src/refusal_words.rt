@@ -1,6 +1,7 @@
 // The words of each refusal.
 ghost use Rattle.std.specs.Prelude.{◌≡◌, ◌++◌, codes, IfOk, string_bytes};
 ghost use Rattle.std.specs.Fmt.{decimal, signed_decimal};
+ghost use Rattle.mesh_outcome.specs.Lines.{line};
 ghost use Rattle.mesh_outcome.specs.RefusalWords.{deck_words, field_words, place_words, problem_words, refusal_words, usage_words};
 
 use input_file::DeckFault;
@@ -11,20 +12,20 @@ use package_fields::FieldFault;
 use problem_set::ProblemFault;
 use std::alloc::Global;
 
-/// Which rule refuses the words.
-pub fn usage_words(fault: UsageFault) -> &'static str
-    ensures { result.now ≡ usage_words fault }
+/// The line that tells which rule refuses the words.
+pub fn usage_line(fault: UsageFault) -> &'static str
+    ensures { result.now ≡ line (codes "usage: " ++ usage_words fault) }
 {
     match fault {
-        UsageFault::NotTheCommand => "words",
-        UsageFault::NoInput => "no input",
-        UsageFault::TwoInputs => "two inputs",
-        UsageFault::Large => "-l",
-        UsageFault::Workers => "-w",
-        UsageFault::Seed => "-g",
-        UsageFault::Prefix => "-d",
-        UsageFault::NotBuilt => "not built",
-        UsageFault::NoMemory => "no memory",
+        UsageFault::NotTheCommand => "usage: words\n",
+        UsageFault::NoInput => "usage: no input\n",
+        UsageFault::TwoInputs => "usage: two inputs\n",
+        UsageFault::Large => "usage: -l\n",
+        UsageFault::Workers => "usage: -w\n",
+        UsageFault::Seed => "usage: -g\n",
+        UsageFault::Prefix => "usage: -d\n",
+        UsageFault::NotBuilt => "usage: not built\n",
+        UsageFault::NoMemory => "usage: no memory\n",
     }
 }
 

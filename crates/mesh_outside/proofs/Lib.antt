@@ -1,5 +1,6 @@
-pub mod Prefixes
+pub mod Afters
 pub mod Exits
 pub mod Found
-pub mod ReadSoFar
 pub mod Lasts
+pub mod Prefixes
+pub mod ReadSoFar

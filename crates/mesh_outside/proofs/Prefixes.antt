@@ -16,12 +16,12 @@ with_last-snoc change files last =
 pub appended-begun : (name bytes : List ℕ) (files : List Gained) → appended bytes (begun name files) ≡ files ++ file_with name bytes false ∷ []
 appended-begun name bytes files = with_last-snoc (λ last. record last { bytes = last.bytes ++ bytes }) files (file_with name [] false)
 
--- a file of which a front of the bytes was written is a cut of it
+-- a file of which a prefix of the bytes was written is a part of it
 pub part_written : (old : Option (List Gained)) (name bytes : List ℕ) (count : ℕ) → GainsPrefix old (option_map (appended (take count bytes)) (option_map (begun name) old)) (file_with name bytes true ∷ [])
 part_written old name bytes count = record {
-  cut = file_with name (take count bytes) false ∷ [];
-  is_cut = inr (record {
-    front = [];
+  prefix = file_with name (take count bytes) false ∷ [];
+  is_prefix = inr (record {
+    first = [];
     file = file_with name bytes true;
     part = file_with name (take count bytes) false;
     others = [];
@@ -36,11 +36,11 @@ part_written old name bytes count = record {
     each None = refl
     each (Some files) = ap Some (appended-begun name (take count bytes) files)
 
--- nothing was gained, which is a cut of any files
-pub nothing_gained : (old new : Option (List Gained)) (files : List Gained) → new ≡ old → GainsPrefix old new files
-nothing_gained old new files same = record {
-  cut = [];
-  is_cut = inl (record { others = files; together = refl });
+-- nothing was gained, which is a prefix of some files
+pub nothing_gained : (old new : Option (List Gained)) (file : Gained) (files : List Gained) → new ≡ old → GainsPrefix old new (file ∷ files)
+nothing_gained old new file files same = record {
+  prefix = [];
+  is_prefix = inl (record { missing = file; others = files; together = refl });
   gained = same ∙ each old;
 }
   where

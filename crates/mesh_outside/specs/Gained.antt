@@ -9,7 +9,7 @@ IsClosed files = All (λ file. IsTrue file.whole) files
 
 -- the last file is unfinished
 abbrev pub IsOpen : List Gained → Type 0
-IsOpen files = (front : List Gained) × (last : Gained) × (files ≡ front ++ last ∷ []) × (last.whole ≡ false)
+IsOpen files = (others : List Gained) × (last : Gained) × (files ≡ others ++ last ∷ []) × (last.whole ≡ false)
 
 -- a file with this name and these bytes, finished or not
 abbrev pub file_with : List ℕ → List ℕ → Bool → Gained
@@ -40,34 +40,36 @@ pub record AppendsPrefix (bytes : List ℕ) (old new : Option (List Gained)) : T
 abbrev pub Gains : Option (List Gained) → Option (List Gained) → List Gained → Type 0
 Gains old new files = new ≡ option_map (λ before. before ++ files) old
 
--- a file as far as it came: a front of its bytes, and not finished
+-- a file as far as it came: a prefix of its bytes, and not finished
 pub record IsPartOf (file part : Gained) : Type 0 where
   pub name : part.name ≡ file.name
   pub rest : List ℕ
   pub bytes : part.bytes ++ rest ≡ file.bytes
   pub whole : part.whole ≡ false
 
--- some of the first of these files
-pub record AreFirstFiles (files gained : List Gained) : Type 0 where
+-- some of the first of these files, and not all
+pub record AreFirst (files gained : List Gained) : Type 0 where
+  pub missing : Gained
   pub others : List Gained
-  pub together : gained ++ others ≡ files
+  pub together : gained ++ missing ∷ others ≡ files
 
 -- some of the first of these files, and a part of the next one
-pub record AreFirstFilesAndPart (files gained : List Gained) : Type 0 where
-  pub front : List Gained
+pub record AreFirstAndPart (files gained : List Gained) : Type 0 where
+  pub first : List Gained
   pub file : Gained
   pub part : Gained
   pub others : List Gained
   pub is_part : IsPartOf file part
-  pub gained_are : gained ≡ front ++ part ∷ []
-  pub files_are : files ≡ front ++ file ∷ others
+  pub gained_are : gained ≡ first ++ part ∷ []
+  pub files_are : files ≡ first ++ file ∷ others
 
--- what is there of these files where writing stopped
+-- what is there of these files where writing stopped: a prefix of them, the last one perhaps unfinished, and never all of them
+-- finished
 abbrev pub IsPrefix : List Gained → List Gained → Type 0
-IsPrefix files gained = AreFirstFiles files gained ⊎ AreFirstFilesAndPart files gained
+IsPrefix files gained = AreFirst files gained ⊎ AreFirstAndPart files gained
 
--- what was gained, behind what there was, is a cut of these files
+-- what was gained, behind what there was, is such a prefix
 pub record GainsPrefix (old new : Option (List Gained)) (files : List Gained) : Type 0 where
-  pub cut : List Gained
-  pub is_cut : IsPrefix files cut
-  pub gained : Gains old new cut
+  pub prefix : List Gained
+  pub is_prefix : IsPrefix files prefix
+  pub gained : Gains old new prefix

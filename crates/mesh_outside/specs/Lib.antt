@@ -1,8 +1,12 @@
-pub mod FileCounts
+pub mod Depot
 pub mod Fault
+pub mod FileDepot
 pub mod Files
 pub mod Gained
-pub mod MemState
-pub mod Printed
-pub mod SinkState
-pub mod SureState
+pub mod MemDepot
+pub mod MemSink
+pub mod OpenInput
+pub mod Reading
+pub mod Sink
+pub mod StdSink
+pub mod SureDepot

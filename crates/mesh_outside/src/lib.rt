@@ -8,6 +8,7 @@
 //! - `read_input` and `write_file` read and write one whole file over any depot.
 #![tactic(auto)]
 
+mod counting;
 mod depot;
 mod fail;
 mod fault;
@@ -17,6 +18,7 @@ mod items;
 mod mem_depot;
 mod mem_read;
 mod mem_sink;
+mod open_input;
 mod reading;
 mod sink;
 mod std_sink;

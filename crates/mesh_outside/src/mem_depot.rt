@@ -1,9 +1,10 @@
-ghost use Rattle.std.specs.Prelude.{◌≡◌, ℕ, ◌≤◌, ◌/◌, ◌⊎◌, List, length, take, true, false, Some, None, Contains, Err, IsTrue, IsErr, OnOk, OnErr, IfOk};
+ghost use Rattle.std.specs.Prelude.{◌≡◌, ℕ, ◌≤◌, ◌/◌, ◌⊎◌, length, take, true, false, Some, None, Contains, Err, IsTrue, IsErr, OnOk, OnErr, IfOk};
 ghost use Rattle.std.specs.Option.{ForSome};
-ghost use Rattle.mesh_outside.specs.Fault.{HasCause, next};
-ghost use Rattle.mesh_outside.specs.Files.{Reads, input_of};
+ghost use Rattle.mesh_outside.specs.Depot.{AfterReads, AfterWrites, Reads};
+ghost use Rattle.mesh_outside.specs.Fault.{counted, next};
+ghost use Rattle.mesh_outside.specs.Files.{input_of};
 ghost use Rattle.mesh_outside.specs.Gained.{IsClosed, IsOpen, begun, appended, finished, AppendsPrefix};
-ghost use Rattle.mesh_outside.specs.MemState.{opening, FailsExactly, piece_of};
+ghost use Rattle.mesh_outside.specs.MemDepot.{opening, FailsExactly, piece_of, CountsRead, seen_mem};
 
 use crate::mem_read::read_from;
 use crate::{Depot, Fail, Fails, Files, OutFault, Written};
@@ -29,7 +30,7 @@ pub struct MemDepot {
 
 impl Model for MemDepot {
     ghost use Rattle.std.specs.Prelude.{◌≤◌};
-    ghost use Rattle.mesh_outside.specs.MemState.{MemState};
+    ghost use Rattle.mesh_outside.specs.MemDepot.{MemState};
 
     ghost Value = { MemState };
 
@@ -68,16 +69,9 @@ impl MemDepot {
 }
 
 impl Depot for MemDepot {
-    ghost use Rattle.std.specs.Prelude.{Some};
-    ghost use Rattle.mesh_outside.specs.MemState.{read_faults_of};
+    ghost use Rattle.mesh_outside.specs.MemDepot.{seen_mem};
 
-    ghost inputs = { λ d. Some d.inputs };
-
-    ghost written = { λ d. Some d.written };
-
-    ghost read_faults = { read_faults_of };
-
-    ghost write_faults = { λ d. d.failed_writes };
+    ghost seen = { seen_mem };
 
     fn read_piece(&mut self, name: &str, from: u64, into: &mut [u8]) -> Result<usize, OutFault>
         ensures piece { Reads (Some self.old.inputs) name.now from into.old into.new result }
@@ -85,8 +79,8 @@ impl Depot for MemDepot {
         ensures amount { IfOk result (λ count. ForSome (input_of self.old.inputs name.now) (λ bytes. count ≡ piece_of self.old.piece bytes from (length into.old))) }
         ensures fails { FailsExactly result (Contains self.old.fails (Fail.Read (next self.old.reads)) ⊎ (input_of self.old.inputs name.now ≡ None)) }
         ensures memory { result ≡ Err OutFault.NoMemory → ⊥ }
-        ensures read_cause { HasCause (read_faults_of self.old name.now) (read_faults_of self.new name.now) result }
-        ensures reads_later { (other : List ℕ) → read_faults_of self.old other ≤ read_faults_of self.new other }
+        ensures counts { CountsRead name.now result self.old self.new }
+        ensures after { AfterReads name.now (result ≡ Err OutFault.Failed) (seen_mem self.old) (seen_mem self.new) }
         ensures others { self.new ≡ record self.old { reads = next self.old.reads; failed_reads = self.new.failed_reads; absent_reads = self.new.absent_reads } }
     {
         self.reads = self.reads.saturating_add(1);
@@ -108,8 +102,8 @@ impl Depot for MemDepot {
         ensures ok { OnOk result (self.new.written ≡ begun name.now self.old.written) }
         ensures err { OnErr result (self.new.written ≡ self.old.written) }
         ensures fails { FailsExactly result (Contains self.old.fails (Fail.Begin (next self.old.begins))) }
-        ensures write_cause { HasCause self.old.failed_writes self.new.failed_writes result }
-        ensures others { self.new ≡ record self.old { begins = next self.old.begins; is_fresh = true; written = self.new.written; failed_writes = self.new.failed_writes } }
+        ensures after { AfterWrites (result ≡ Err OutFault.Failed) (seen_mem self.old) (seen_mem self.new) }
+        ensures others { self.new ≡ record self.old { begins = next self.old.begins; is_fresh = true; written = self.new.written; failed_writes = counted result self.old.failed_writes } }
     {
         self.begins = self.begins.saturating_add(1);
         self.is_fresh = true;
@@ -128,8 +122,8 @@ impl Depot for MemDepot {
         ensures fresh_only { result ≡ Err OutFault.Failed → IsTrue self.old.is_fresh }
         ensures named_only { result ≡ Err OutFault.Failed → Contains self.old.fails (Fail.AppendOf (length self.old.written)) }
         ensures half { result ≡ Err OutFault.Failed → self.new.written ≡ appended (take (length bytes.now / 2) bytes.now) self.old.written }
-        ensures write_cause { HasCause self.old.failed_writes self.new.failed_writes result }
-        ensures others { self.new ≡ record self.old { is_fresh = false; written = self.new.written; failed_writes = self.new.failed_writes } }
+        ensures after { AfterWrites (result ≡ Err OutFault.Failed) (seen_mem self.old) (seen_mem self.new) }
+        ensures others { self.new ≡ record self.old { is_fresh = false; written = self.new.written; failed_writes = counted result self.old.failed_writes } }
     {
         let was_fresh = self.is_fresh;
         self.is_fresh = false;
@@ -148,8 +142,8 @@ impl Depot for MemDepot {
         ensures err { OnErr result (self.new.written ≡ self.old.written) }
         ensures fails { FailsExactly result (Contains self.old.fails (Fail.Finish (next self.old.finishes))) }
         ensures memory { result ≡ Err OutFault.NoMemory → ⊥ }
-        ensures write_cause { HasCause self.old.failed_writes self.new.failed_writes result }
-        ensures others { self.new ≡ record self.old { finishes = next self.old.finishes; written = self.new.written; failed_writes = self.new.failed_writes } }
+        ensures after { AfterWrites (result ≡ Err OutFault.Failed) (seen_mem self.old) (seen_mem self.new) }
+        ensures others { self.new ≡ record self.old { finishes = next self.old.finishes; written = self.new.written; failed_writes = counted result self.old.failed_writes } }
     {
         self.finishes = self.finishes.saturating_add(1);
         if self.fails.as_slice().contains(&Fail::Finish(self.finishes)) {

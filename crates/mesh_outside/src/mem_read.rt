@@ -1,7 +1,8 @@
 ghost use Rattle.std.specs.Prelude.{◌≡◌, ◌≤◌, None, length, IfNone, IfSome, IsSome};
 ghost use Rattle.std.specs.Option.{option_copied, ForSome};
-ghost use Rattle.mesh_outside.specs.Files.{input_of, IsPiece};
-ghost use Rattle.mesh_outside.specs.MemState.{piece_of};
+ghost use Rattle.mesh_outside.specs.Depot.{IsPiece};
+ghost use Rattle.mesh_outside.specs.Files.{input_of};
+ghost use Rattle.mesh_outside.specs.MemDepot.{piece_of};
 
 use crate::Files;
 
@@ -17,7 +18,7 @@ fn find<'a>(inputs: &'a Files, name: &str) -> Option<&'a [u8]>
     None
 }
 
-/// Reads at most `most` bytes of an input from a place on into the front of `into`, and answers how
+/// Reads at most `most` bytes of an input from a place on into the start of `into`, and answers how
 /// many; None exactly where no input has the name.
 pub(crate) fn read_from(
     inputs: &Files,

@@ -1,6 +1,7 @@
 ghost use Rattle.std.specs.Prelude.{◌≡◌, ◌++◌, ◌↔◌, Some, Err, OnOk, OnErr};
-ghost use Rattle.mesh_outside.specs.Fault.{HasCause, next};
-ghost use Rattle.mesh_outside.specs.SinkState.{opening};
+ghost use Rattle.mesh_outside.specs.Fault.{counted, next};
+ghost use Rattle.mesh_outside.specs.MemSink.{opening, seen_sink};
+ghost use Rattle.mesh_outside.specs.Sink.{AfterPrint};
 
 use crate::{OutFault, Sink};
 use std::alloc::Global;
@@ -16,7 +17,7 @@ pub struct MemSink {
 }
 
 impl Model for MemSink {
-    ghost use Rattle.mesh_outside.specs.SinkState.{SinkState};
+    ghost use Rattle.mesh_outside.specs.MemSink.{SinkState};
 
     ghost Value = { SinkState };
 
@@ -45,18 +46,16 @@ impl MemSink {
 }
 
 impl Sink for MemSink {
-    ghost use Rattle.std.specs.Prelude.{Some};
+    ghost use Rattle.mesh_outside.specs.MemSink.{seen_sink};
 
-    ghost printed = { λ s. Some s.printed };
-
-    ghost faults = { λ s. s.faults };
+    ghost seen = { seen_sink };
 
     fn print(&mut self, bytes: &[u8]) -> Result<(), OutFault>
         ensures ok { OnOk result (self.new.printed ≡ self.old.printed ++ bytes.now) }
         ensures err { OnErr result (self.new.printed ≡ self.old.printed) }
         ensures fails { (result ≡ Err OutFault.Failed) ↔ (self.old.fail_at ≡ next self.old.calls) }
-        ensures cause { HasCause self.old.faults self.new.faults result }
-        ensures others { self.new ≡ record self.old { calls = next self.old.calls; printed = self.new.printed; faults = self.new.faults } }
+        ensures others { self.new ≡ record self.old { calls = next self.old.calls; printed = self.new.printed; faults = counted result self.old.faults } }
+        ensures after { AfterPrint result (seen_sink self.old) (seen_sink self.new) }
     {
         self.calls = self.calls.saturating_add(1);
         if self.calls == self.fail_at {

@@ -1,6 +1,6 @@
-ghost use Rattle.std.specs.Prelude.{◌≡◌, ℕ, ◌+◌, ◌<◌, ◌≤◌, ◌^◌, List, vec_len, length, IfOk};
-ghost use Rattle.mesh_outside.specs.Fault.{HasCause};
-ghost use Rattle.mesh_outside.specs.Files.{ReadsInput, ReadsMore};
+ghost use Rattle.std.specs.Prelude.{◌≡◌, ◌+◌, ◌<◌, ◌≤◌, ◌^◌, Err, vec_len, length, IfOk};
+ghost use Rattle.mesh_outside.specs.Depot.{AfterReads};
+ghost use Rattle.mesh_outside.specs.Reading.{ReadsInput, ReadsMore};
 
 use crate::{Depot, OutFault};
 use std::alloc::{AllocError, Global};
@@ -17,13 +17,9 @@ pub fn read_input<D: Depot>(
     limit: usize,
 ) -> Result<Vec<u8>, OutFault>
     requires { limit < 2 ^ 32 }
-    ensures input { IfOk result (λ bytes. ReadsInput (D.inputs depot.old) name.now limit bytes.items) }
+    ensures input { IfOk result (λ bytes. ReadsInput (D.seen depot.old).inputs name.now limit bytes.items) }
     ensures bounded { IfOk result (λ bytes. vec_len bytes ≤ limit + 1) }
-    ensures inputs { D.inputs depot.new ≡ D.inputs depot.old }
-    ensures written { D.written depot.new ≡ D.written depot.old }
-    ensures read_cause { HasCause (D.read_faults depot.old name.now) (D.read_faults depot.new name.now) result }
-    ensures reads_later { (other : List ℕ) → D.read_faults depot.old other ≤ D.read_faults depot.new other }
-    ensures writes_later { D.write_faults depot.old ≤ D.write_faults depot.new }
+    ensures after { AfterReads name.now (result ≡ Err OutFault.Failed) (D.seen depot.old) (D.seen depot.new) }
 {
     let mut buffer = zeros(alloc, PIECE)?;
     let mut bytes = Vec::new(alloc);
@@ -44,14 +40,10 @@ fn read_next<D: Depot>(
     bytes: &mut Vec<u8>,
     piece: &mut [u8],
 ) -> Result<usize, OutFault>
-    ensures more { IfOk result (λ count. ReadsMore (D.inputs depot.old) name.now bytes.old.items bytes.new.items (length piece.old) count) }
+    ensures more { IfOk result (λ count. ReadsMore (D.seen depot.old).inputs name.now bytes.old.items bytes.new.items (length piece.old) count) }
     ensures length { IfOk result (λ count. vec_len bytes.new ≡ vec_len bytes.old + count) }
     ensures within { IfOk result (λ count. count ≤ length piece.old) }
-    ensures inputs { D.inputs depot.new ≡ D.inputs depot.old }
-    ensures written { D.written depot.new ≡ D.written depot.old }
-    ensures read_cause { HasCause (D.read_faults depot.old name.now) (D.read_faults depot.new name.now) result }
-    ensures reads_later { (other : List ℕ) → D.read_faults depot.old other ≤ D.read_faults depot.new other }
-    ensures writes_later { D.write_faults depot.old ≤ D.write_faults depot.new }
+    ensures after { AfterReads name.now (result ≡ Err OutFault.Failed) (D.seen depot.old) (D.seen depot.new) }
 {
     let count = depot.read_piece(name, bytes.len() as u64, piece)?;
     bytes.extend_from_slice(&piece[..count])?;

@@ -1,10 +1,11 @@
-ghost use Rattle.std.specs.Prelude.{◌≡◌, ℕ, ◌≤◌, List, length, Some, None, Err, IsOk, OnOk, OnErr, IfOk};
+ghost use Rattle.std.specs.Prelude.{◌≡◌, ◌≤◌, length, Some, None, Err, IsOk, OnOk, OnErr, IfOk};
 ghost use Rattle.std.specs.Option.{ForSome};
-ghost use Rattle.mesh_outside.specs.Fault.{HasCause};
-ghost use Rattle.mesh_outside.specs.Files.{Reads, input_of};
+ghost use Rattle.mesh_outside.specs.Depot.{AfterReads, AfterWrites, Reads};
+ghost use Rattle.mesh_outside.specs.Fault.{counted};
+ghost use Rattle.mesh_outside.specs.Files.{input_of};
 ghost use Rattle.mesh_outside.specs.Gained.{IsOpen, begun, appended, finished};
-ghost use Rattle.mesh_outside.specs.MemState.{FailsExactly, piece_of};
-ghost use Rattle.mesh_outside.specs.SureState.{opening};
+ghost use Rattle.mesh_outside.specs.MemDepot.{FailsExactly, piece_of};
+ghost use Rattle.mesh_outside.specs.SureDepot.{opening, seen_sure};
 
 use crate::mem_read::read_from;
 use crate::{Depot, Files, OutFault, Written};
@@ -23,7 +24,7 @@ pub struct SureDepot {
 
 impl Model for SureDepot {
     ghost use Rattle.std.specs.Prelude.{◌≤◌};
-    ghost use Rattle.mesh_outside.specs.SureState.{SureState};
+    ghost use Rattle.mesh_outside.specs.SureDepot.{SureState};
 
     ghost Value = { SureState };
 
@@ -55,16 +56,9 @@ impl SureDepot {
 }
 
 impl Depot for SureDepot {
-    ghost use Rattle.std.specs.Prelude.{Some};
-    ghost use Rattle.mesh_outside.specs.SureState.{read_faults_of};
+    ghost use Rattle.mesh_outside.specs.SureDepot.{seen_sure};
 
-    ghost inputs = { λ d. Some d.inputs };
-
-    ghost written = { λ d. Some d.written };
-
-    ghost read_faults = { read_faults_of };
-
-    ghost write_faults = { λ d. 0 };
+    ghost seen = { seen_sure };
 
     fn read_piece(&mut self, name: &str, from: u64, into: &mut [u8]) -> Result<usize, OutFault>
         ensures piece { Reads (Some self.old.inputs) name.now from into.old into.new result }
@@ -72,9 +66,8 @@ impl Depot for SureDepot {
         ensures amount { IfOk result (λ count. ForSome (input_of self.old.inputs name.now) (λ bytes. count ≡ piece_of self.old.piece bytes from (length into.old))) }
         ensures fails { FailsExactly result (input_of self.old.inputs name.now ≡ None) }
         ensures memory { result ≡ Err OutFault.NoMemory → ⊥ }
-        ensures read_cause { HasCause (read_faults_of self.old name.now) (read_faults_of self.new name.now) result }
-        ensures reads_later { (other : List ℕ) → read_faults_of self.old other ≤ read_faults_of self.new other }
-        ensures others { self.new ≡ record self.old { absent_reads = self.new.absent_reads } }
+        ensures counts { self.new ≡ record self.old { absent_reads = counted result self.old.absent_reads } }
+        ensures after { AfterReads name.now (result ≡ Err OutFault.Failed) (seen_sure self.old) (seen_sure self.new) }
     {
         match read_from(&self.inputs, name, from, into, self.piece) {
             Some(count) => Ok(count),
@@ -89,6 +82,7 @@ impl Depot for SureDepot {
         ensures ok { OnOk result (self.new ≡ record self.old { written = begun name.now self.old.written }) }
         ensures err { OnErr result (self.new ≡ self.old) }
         ensures memory { result ≡ Err OutFault.Failed → ⊥ }
+        ensures after { AfterWrites (result ≡ Err OutFault.Failed) (seen_sure self.old) (seen_sure self.new) }
     {
         self.written.begin(name)
     }
@@ -98,6 +92,7 @@ impl Depot for SureDepot {
         ensures ok { OnOk result (self.new ≡ record self.old { written = appended bytes.now self.old.written }) }
         ensures err { OnErr result (self.new ≡ self.old) }
         ensures memory { result ≡ Err OutFault.Failed → ⊥ }
+        ensures after { AfterWrites (result ≡ Err OutFault.Failed) (seen_sure self.old) (seen_sure self.new) }
     {
         self.written.append(bytes)
     }
@@ -106,6 +101,7 @@ impl Depot for SureDepot {
         requires { IsOpen self.old.written }
         ensures done { IsOk result }
         ensures finished { self.new ≡ record self.old { written = finished self.old.written } }
+        ensures after { AfterWrites (result ≡ Err OutFault.Failed) (seen_sure self.old) (seen_sure self.new) }
     {
         self.written.finish();
         Ok(())

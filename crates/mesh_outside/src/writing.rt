@@ -1,18 +1,17 @@
-ghost use Rattle.std.specs.Prelude.{◌≡◌, ℕ, ◌≤◌, List, [], ◌∷◌, true, OnOk, OnErr};
+ghost use Rattle.std.specs.Prelude.{◌≡◌, [], ◌∷◌, true, Err, OnOk, OnErr};
 ghost use Rattle.std.specs.Option.{ForSome};
-ghost use Rattle.mesh_outside.specs.Fault.{HasCause};
+ghost use Rattle.mesh_outside.specs.Depot.{AfterWrites};
 ghost use Rattle.mesh_outside.specs.Gained.{IsClosed, file_with, Gains, GainsPrefix};
 
 use crate::{Depot, OutFault};
 
-/// Writes one whole file: begins it, appends its bytes, and finishes it.
+/// Writes one whole file: begins it, appends its bytes, and finishes it. After a refusal the file is not
+/// there, or is there with a prefix of its bytes and unfinished.
 pub fn write_file<D: Depot>(depot: &mut D, name: &str, bytes: &[u8]) -> Result<(), OutFault>
-    requires { ForSome (D.written depot.old) IsClosed }
-    ensures ok { OnOk result (Gains (D.written depot.old) (D.written depot.new) (file_with name.now bytes.now true ∷ [])) }
-    ensures err { OnErr result (GainsPrefix (D.written depot.old) (D.written depot.new) (file_with name.now bytes.now true ∷ [])) }
-    ensures inputs { D.inputs depot.new ≡ D.inputs depot.old }
-    ensures write_cause { HasCause (D.write_faults depot.old) (D.write_faults depot.new) result }
-    ensures reads_later { (other : List ℕ) → D.read_faults depot.old other ≤ D.read_faults depot.new other }
+    requires { ForSome (D.seen depot.old).written IsClosed }
+    ensures ok { OnOk result (Gains (D.seen depot.old).written (D.seen depot.new).written (file_with name.now bytes.now true ∷ [])) }
+    ensures err { OnErr result (GainsPrefix (D.seen depot.old).written (D.seen depot.new).written (file_with name.now bytes.now true ∷ [])) }
+    ensures after { AfterWrites (result ≡ Err OutFault.Failed) (D.seen depot.old) (D.seen depot.new) }
 {
     depot.begin(name)?;
     depot.append(bytes)?;

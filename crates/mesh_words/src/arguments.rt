@@ -1,11 +1,11 @@
-ghost use Rattle.std.specs.Prelude.{◌≡◌, ◌≢◌, ◌≤◌, ◌⊎◌, Err, Some, true, map, option_map, unwrap_or, codes, IfOk, IfErr};
+ghost use Rattle.std.specs.Prelude.{◌≡◌, ◌≢◌, ◌≤◌, ◌⊎◌, Err, Some, true, map, option_map, unwrap_or, codes, IfOk, IfErr, IfSome};
 ghost use Rattle.std.specs.Option.{option_map_or};
 ghost use Rattle.std.specs.String.{string_bytes};
 ghost use Rattle.std.specs.Str.Parse.{digits_value};
 ghost use Rattle.clap.specs.Words.{rows_of, found_of, kind_of, takes};
 ghost use Rattle.mesh_words.specs.Command.{command};
 ghost use Rattle.mesh_words.specs.Numbers.{is_workers};
-ghost use Rattle.mesh_words.specs.RawArguments.{passes, overrides_by};
+ghost use Rattle.mesh_words.specs.RawArguments.{first_fault, passes, overrides_by, raw_of};
 ghost use Rattle.mesh_words.specs.Arguments.{arguments_of_rows, arguments_with, arguments_of};
 ghost use Rattle.mesh_words.specs.Seen.{Answers, seen_raw, seen_arguments};
 
@@ -62,6 +62,7 @@ fn accept<'a>(alloc: Global, matches: &ArgMatches<'a>) -> Result<Arguments<'a>, 
     ensures least_workers { IfOk result (λ w. 1 ≤ w.workers) }
     ensures most_workers { IfOk result (λ w. w.workers ≤ 64) }
     ensures taken { result ≢ Err UsageFault.NotTheCommand }
+    ensures rule { IfSome (first_fault (raw_of (rows_of (found_of matches.now)))) (λ fault. result ≡ Err fault) }
 {
     let raw = raw_of(matches);
     match first_fault(&raw) {

@@ -3,7 +3,7 @@
 /// A block, or a cell, of a mesh: its refinement level and its place among the locations of that level.
 ///
 /// The coordinates count locations of the level from the low corner of the domain, in the order x1, x2, x3.
-#[derive(Clone, Copy, PartialEq, Eq, Default, Debug)]
+#[derive(Clone, Copy, PartialEq, Eq, Hash, Default, Debug)]
 pub struct Loc {
     pub level: u32,
     pub l1: u32,

@@ -115,7 +115,8 @@ fn push_field(text: &mut String, field: &Field, moves: &Moves) -> Result<(), All
     }
     let [v1, v2, v3] = moves.v;
     let k = moves.k;
-    write!(text, " v {v1} {v2} {v3} k {k} in")?;
+    let order = moves.order;
+    write!(text, " v {v1} {v2} {v3} k {k} order {order} in")?;
     for amount in moves.entry.iter() {
         write!(text, " {amount}")?;
     }

@@ -1,35 +1,25 @@
-use Rattle.std.proofs.Common.{ℕ, List}
-use Rattle.mesh_outside.specs.Fault.{Rose}
-use Rattle.mesh_cli.proofs.Causes.{completes, read_cause, write_cause}
+use Rattle.std.specs.Prelude.{map, string_bytes}
+use Rattle.mesh_words.specs.Arguments.{arguments_of}
+use Rattle.mesh_cli.specs.TopCall.{Outside, outside}
+use Rattle.mesh_cli.proofs.TopCallLemmas.{causes, completes, counts, inputs_stay}
 use Rattle.mesh_cli.proofs.top_call.mesh_plain.Goals as goal
 
-pub returns-clause-ends : goal.returns-clause-ends
-returns-clause-ends g c = record { outcome = c.outcome_of-outcome.result; ended = c.outcome_of-outcome.ensures.ends; told = c.report.ensures.told }
-
-pub returns-clause-read_cause : goal.returns-clause-read_cause
-returns-clause-read_cause g c =
-    let before = c.args.depot.now in
-    let after = c.outcome_of-outcome.new.depot in
-    read_cause _ c.outcome_of-outcome.result c.report.result (g.D.Depot.inputs before)
-    (λ (name : List ℕ). Rose (g.D.Depot.read_faults before name) (g.D.Depot.read_faults after name))
-    (Rose (g.D.Depot.write_faults before) (g.D.Depot.write_faults after))
-    (g.D.Depot.written before) (g.D.Depot.written after) _ _ c.outcome_of-outcome.ensures.ends c.report.ensures.told
-
-pub returns-clause-write_cause : goal.returns-clause-write_cause
-returns-clause-write_cause g c =
-    let before = c.args.depot.now in
-    let after = c.outcome_of-outcome.new.depot in
-    write_cause _ c.outcome_of-outcome.result c.report.result (g.D.Depot.inputs before)
-    (λ (name : List ℕ). Rose (g.D.Depot.read_faults before name) (g.D.Depot.read_faults after name))
-    (Rose (g.D.Depot.write_faults before) (g.D.Depot.write_faults after))
-    (g.D.Depot.written before) (g.D.Depot.written after) _ _ c.outcome_of-outcome.ensures.ends c.report.ensures.told
-
-pub returns-clause-complete : goal.returns-clause-complete
-returns-clause-complete g c =
-    let before = c.args.depot.now in
-    let after = c.outcome_of-outcome.new.depot in
-    completes _ c.outcome_of-outcome.result c.report.result (g.D.Depot.inputs before)
-    (λ (name : List ℕ). Rose (g.D.Depot.read_faults before name) (g.D.Depot.read_faults after name))
-    (Rose (g.D.Depot.write_faults before) (g.D.Depot.write_faults after))
-    (Rose (g.K.Sink.faults c.args.out.now) (g.K.Sink.faults c.report.new.out))
-    (g.D.Depot.written before) (g.D.Depot.written after) _ _ c.outcome_of-outcome.ensures.ends c.report.ensures.told c.report.ensures.cause
+pub returns : goal.returns
+returns g c =
+    let before : Outside = outside (g.D.Depot.seen c.args.depot.now) (g.K.Sink.seen c.args.out.now) in
+    let after : Outside = outside (g.D.Depot.seen c.outcome_of-outcome.new.depot) (g.K.Sink.seen c.report.new.out) in
+    let o = c.outcome_of-outcome.result in
+    let ended = c.outcome_of-outcome.ensures.ends in
+    let call = c.outcome_of-outcome.ensures.after in
+    let told = c.report.ensures.told in
+    let report = c.report.ensures.after in
+    let words = arguments_of (map string_bytes c.args.words.now) in
+    record {
+      outcome = o;
+      ended = ended;
+      told = told;
+      causes = causes words o c.report.result before after ended call told report;
+      counts = counts words o c.report.result before after call report;
+      completes = completes words o c.report.result before after ended call told report;
+      inputs = inputs_stay words o before.depot after.depot call;
+    }

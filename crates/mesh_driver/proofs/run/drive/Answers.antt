@@ -1,12 +1,17 @@
 use Rattle.std.proofs.Common.{◌≡◌, ◌+◌, ◌≤◌, ap, ◌∙◌, arith}
 use Rattle.problem_set.specs.Settings.{Settings}
+use Rattle.problem_set.specs.SettingsOf.{settings_of}
 use Rattle.dense_model.specs.RunFiles.{RunAt}
+use Rattle.std.proofs.lemmas.Result.{err_from_is_err_and}
+use Rattle.mesh_outside.proofs.Afters.{writes_as, writes_on, writes_then}
+use Rattle.mesh_driver.specs.declared.run.RunEnd.{RunEnd}
+use Rattle.mesh_driver.proofs.Faults.{fault_again}
 use Rattle.mesh_outside.proofs.Exits.{always_on_err}
-use Rattle.mesh_driver.proofs.Cycles.{closed_behind, gains_next, nothing_cut, started_closed, started_gains, started_stops, stops_at}
+use Rattle.mesh_driver.proofs.Cycles.{closed_behind, gains_next, nothing_of_run, started_closed, started_gains, started_stops, stops_at}
 use Rattle.mesh_driver.proofs.run.drive.Goals as goal
 
 pub returns-in_err-run-clause-err : goal.returns-in_err-run-clause-err
-returns-in_err-run-clause-err g c = always_on_err _ (nothing_cut _ _)
+returns-in_err-run-clause-err g c = always_on_err _ (nothing_of_run (settings_of c.args.problem.now) c.args.prefix.now (g.D.Depot.seen c.args.depot.now).written)
 
 pub returns-in_err-write_dump-clause-err : goal.returns-in_err-write_dump-clause-err
 returns-in_err-write_dump-clause-err g c =
@@ -19,9 +24,7 @@ cycles-init g c =
       omega arith,
       started_gains _ c.args.prefix.now c.in_ok-run.run' _ _ c.in_ok-run.ensures c.in_ok-write_dump.ensures.ok,
       started_closed _ c.args.prefix.now c.in_ok-run.run' _ _ c.in_ok-run.ensures c.in_ok-write_dump.ensures.ok c.requires.closed,
-      c.in_ok-write_dump.ensures.inputs,
-      c.in_ok-write_dump.ensures.reads_later,
-      c.in_ok-write_dump.ensures.write_cause.later,
+      writes_on _ _ _ c.in_ok-write_dump.ensures.after (λ is. absurd (cc)),
     )
 
 pub cycles-preserved : goal.cycles-preserved
@@ -35,9 +38,7 @@ cycles-preserved g c =
       omega arith,
       gains_next _ c.args.prefix.now (c.cycles.run.cycle + 1) (c.advance.new.run.cycle + 1) _ _ _ next c.cycles.invariant.2 c.in_ok-advance.ensures.ok,
       closed_behind _ c.args.prefix.now (c.cycles.run.cycle + 1) _ _ c.in_ok-advance.ensures.ok c.cycles.invariant.3,
-      c.in_ok-advance.ensures.inputs ∙ c.cycles.invariant.4,
-      λ name. omega (arith, c.in_ok-advance.ensures.reads_later name, c.cycles.invariant.5 name),
-      omega arith,
+      writes_then _ _ _ _ _ _ c.cycles.invariant.4 (λ x. x) c.in_ok-advance.ensures.after (λ is. absurd (cc)) (λ x. absurd x),
     )
 
 pub returns-in_err-advance-clause-err : goal.returns-in_err-advance-clause-err
@@ -46,11 +47,15 @@ returns-in_err-advance-clause-err g c =
     let limit : c.cycles.run.problem.nlim ≡ _ = ap (λ (p : Settings). p.nlim) c.cycles.invariant.0 in
     always_on_err _ (stops_at _ c.args.prefix.now (c.cycles.run.cycle + 1) _ _ _ (omega arith) c.cycles.invariant.2 c.in_err-advance.ensures.err)
 
-pub returns-in_err-advance-clause-write_cause : goal.returns-in_err-advance-clause-write_cause
-returns-in_err-advance-clause-write_cause g c = record {
-  later = omega (arith, c.in_err-advance.ensures.write_cause.later, c.cycles.invariant.6);
-  failed = λ h. let r = c.from_residual-in_err-advance.ensures in let f = c.in_err-advance.ensures.write_cause.failed in ?;
-}
+pub returns-in_err-write_dump-clause-after : goal.returns-in_err-write_dump-clause-after
+returns-in_err-write_dump-clause-after g c =
+    let p = err_from_is_err_and c.from_residual-in_err-write_dump.result c.from_residual-in_err-write_dump.ensures.1 in
+    rw (p.1, p.2) (fault_again {T = Unit {0}} {U = RunEnd} c.in_err-write_dump.field-0.0 _ _ c.in_err-write_dump.ensures.after)
 
-pub returns-in_err-advance-clause-reads_later : goal.returns-in_err-advance-clause-reads_later
-returns-in_err-advance-clause-reads_later g c = λ name. omega (arith, c.in_err-advance.ensures.reads_later name, c.cycles.invariant.5 name)
+pub returns-in_err-advance-clause-after : goal.returns-in_err-advance-clause-after
+returns-in_err-advance-clause-after g c =
+    let p = err_from_is_err_and c.from_residual-in_err-advance.result c.from_residual-in_err-advance.ensures.1 in
+    rw (p.1, p.2) (writes_then _ _ _ _ _ _ c.cycles.invariant.4 (λ x. x) (fault_again {T = Unit {0}} {U = RunEnd} c.in_err-advance.field-0.0 _ _ c.in_err-advance.ensures.after) (λ x. x) (λ x. x))
+
+pub returns-clause-after : goal.returns-clause-after
+returns-clause-after g c = writes_as ⊥ _ _ _ c.cycles.invariant.4 (λ x. absurd x) (λ is. cc)

@@ -1,0 +1,10 @@
+pub mod EventCounts
+pub mod GoOn
+pub mod Each
+pub mod LetterLaws
+pub mod Carried
+pub mod Ready
+pub mod Lists
+pub mod Orderly
+pub mod OrderlyKept
+pub mod OrderlySteps

@@ -1,0 +1,4 @@
+pub mod Events
+pub mod Plan
+pub mod Protocol
+pub mod Readiness

@@ -1,0 +1,196 @@
+-- How a call ends, step by step.
+use Rattle.std.proofs.Common.{◌≡◌, ◌≢◌, ℕ, ◌≤◌, ◌⊎◌, inl, inr, Bool, true, false, IsTrue, List, Option, Result, Ok, Err, refl, sym, ◌∙◌, ap, subst, arith}
+use Rattle.std.specs.Prelude.{if◌then◌else◌}
+use Rattle.problem_set.specs.Settings.{Settings}
+use Rattle.dense_model.specs.OfProblem.{is_built}
+use Rattle.mesh_outside.specs.declared.files.File.{File}
+use Rattle.mesh_outside.specs.declared.files.Gained.{Gained}
+use Rattle.mesh_outside.specs.Depot.{DepotSeen, AfterReads, AfterWrites}
+use Rattle.mesh_outside.specs.Fault.{Counts, Rose}
+use Rattle.mesh_words.specs.Arguments.{Arguments}
+use Rattle.mesh_words.specs.declared.fault.UsageFault.{UsageFault}
+use Rattle.mesh_words.specs.declared.fault.UsageFault.TheVariants as usage_fault
+use Rattle.mesh_input.specs.declared.input.Input.{Input}
+use Rattle.mesh_input.specs.declared.fault.Refusal.{Refusal}
+use Rattle.mesh_input.specs.declared.fault.Refusal.TheVariants.{NotBuilt}
+use Rattle.mesh_input.specs.declared.fault.InputFault.{InputFault}
+use Rattle.mesh_input.specs.declared.fault.InputFault.TheVariants as input_fault
+use Rattle.mesh_outcome.specs.declared.outcome.Outcome.{Outcome}
+use Rattle.mesh_outcome.specs.declared.outcome.Outcome.TheVariants.{Done, Listed, Usage, Refused, ReadFault, WriteFault, NoMemory}
+use Rattle.mesh_input.specs.Input.{SeenInput}
+use Rattle.mesh_input.specs.File.{AnswersFile, Gives}
+use Rattle.mesh_cli.specs.Steps.{AfterCall, AfterInput, EndsAccepted, EndsBy, EndsWith, RunEnds, outcome_of_fault, outcome_of_usage}
+use Rattle.mesh_cli.specs.Verdicts.{ComesTo, Verdict, lists, refused, runs, verdict_by, verdict_on}
+
+-- a deck that is listed
+pub listed_ends : (prefix : List ℕ) (listed : Bool) (i : SeenInput) (w : Option (List Gained)) → listed ≡ true → EndsBy prefix (verdict_on listed i) (Listed i.deck) w w
+listed_ends prefix listed i w is =
+    let P : Bool → Type 0 = λ b. EndsBy prefix (verdict_on b i) (Listed i.deck) w w in
+    subst P (sym is) (refl, refl)
+
+-- a problem that is not built
+pub not_built_ends : (prefix : List ℕ) (listed : Bool) (i : SeenInput) (w : Option (List Gained)) → listed ≡ false → is_built i.problem ≡ false → EndsBy prefix (verdict_on listed i) (Refused NotBuilt) w w
+not_built_ends prefix listed i w is built =
+    let P : Bool → Type 0 = λ b. EndsBy prefix (verdict_on b i) (Refused NotBuilt) w w in
+    let Q : Bool → Type 0 = λ b. EndsBy prefix (if b then runs i.problem else refused NotBuilt) (Refused NotBuilt) w w in
+    subst P (sym is) (subst Q (sym built) (refl, refl))
+
+-- a problem that is run
+pub run_ends : (prefix : List ℕ) (listed : Bool) (i : SeenInput) (outcome : Outcome) (old new : Option (List Gained)) → listed ≡ false → is_built i.problem ≡ true → RunEnds i.problem prefix outcome old new → EndsBy prefix (verdict_on listed i) outcome old new
+run_ends prefix listed i outcome old new is built ends =
+    let P : Bool → Type 0 = λ b. EndsBy prefix (verdict_on b i) outcome old new in
+    let Q : Bool → Type 0 = λ b. EndsBy prefix (if b then runs i.problem else refused NotBuilt) outcome old new in
+    subst P (sym is) (subst Q (sym built) ends)
+
+-- what a file gives is what the words come to
+comes : (inputs : Option (List File)) (arguments : Arguments) (given : Result SeenInput Refusal) → Gives inputs arguments.input arguments.overrides given → ComesTo inputs arguments (verdict_by arguments.prints_deck given)
+comes inputs arguments given gives = record { bytes = gives.bytes; are_there = gives.are_there; verdict_is = ap (verdict_by arguments.prints_deck) gives.given_is }
+
+-- an input that was accepted decides how the call ends
+pub input_ends : (arguments : Arguments) (i : SeenInput) (outcome : Outcome) (old mid new : DepotSeen) → Gives old.inputs arguments.input arguments.overrides (Ok i) → mid.written ≡ old.written → EndsBy arguments.prefix (verdict_on arguments.prints_deck i) outcome mid.written new.written → EndsAccepted arguments outcome old new
+input_ends arguments i outcome old mid new gives same ends =
+    let P : Option (List Gained) → Type 0 = λ w. EndsBy arguments.prefix (verdict_on arguments.prints_deck i) outcome w new.written in
+    inr (record {
+      verdict = verdict_on arguments.prints_deck i;
+      comes_to = comes old.inputs arguments (Ok i) gives;
+      ends = subst P same ends;
+    })
+
+-- a call that has no input
+pub fault_ends : (arguments : Arguments) (fault : InputFault) (outcome : Outcome) (old new : DepotSeen) → outcome ≡ outcome_of_fault fault → AnswersFile old.inputs arguments.input arguments.overrides (Err fault) → new.written ≡ old.written → EndsAccepted arguments outcome old new
+fault_ends arguments fault outcome old new is told same =
+    let P : Outcome → Type 0 = λ o. EndsAccepted arguments o old new in
+    subst P (sym is) (by fault told)
+  where
+    by : (f : InputFault) → AnswersFile old.inputs arguments.input arguments.overrides (Err f) → EndsAccepted arguments (outcome_of_fault f) old new
+    by (input_fault.Refused r) gives = inr (record { verdict = refused r; comes_to = comes old.inputs arguments (Err r) gives; ends = (refl, same) })
+    by input_fault.ReadFault _ = inl same
+    by input_fault.NoMemory _ = inl same
+
+-- a call whose words are refused
+pub usage_ends : (told : Result Arguments UsageFault) (fault : UsageFault) (outcome : Outcome) (d : DepotSeen) → outcome ≡ outcome_of_usage fault → (fault ≡ usage_fault.NoMemory) ⊎ (told ≡ Err fault) → EndsWith told outcome d d
+usage_ends told fault outcome d is known =
+    let P : Outcome → Type 0 = λ o. EndsWith told o d d in
+    subst P (sym is) (by fault known)
+  where
+    no_memory : (t : Result Arguments UsageFault) → EndsWith t NoMemory d d
+    no_memory (Ok arguments) = inl refl
+    no_memory (Err f) = (inr refl, refl)
+
+    refused_by : (f : UsageFault) → told ≡ Err f → EndsWith told (Usage f) d d
+    refused_by f e =
+        let Q : Result Arguments UsageFault → Type 0 = λ t. EndsWith t (Usage f) d d in
+        subst Q (sym e) (inl refl, refl)
+
+    by : (f : UsageFault) → (f ≡ usage_fault.NoMemory) ⊎ (told ≡ Err f) → EndsWith told (outcome_of_usage f) d d
+    by usage_fault.NotTheCommand (inl e) = cc
+    by usage_fault.NotTheCommand (inr e) = refused_by usage_fault.NotTheCommand e
+    by usage_fault.NoInput (inl e) = cc
+    by usage_fault.NoInput (inr e) = refused_by usage_fault.NoInput e
+    by usage_fault.TwoInputs (inl e) = cc
+    by usage_fault.TwoInputs (inr e) = refused_by usage_fault.TwoInputs e
+    by usage_fault.Large (inl e) = cc
+    by usage_fault.Large (inr e) = refused_by usage_fault.Large e
+    by usage_fault.Workers (inl e) = cc
+    by usage_fault.Workers (inr e) = refused_by usage_fault.Workers e
+    by usage_fault.Seed (inl e) = cc
+    by usage_fault.Seed (inr e) = refused_by usage_fault.Seed e
+    by usage_fault.Prefix (inl e) = cc
+    by usage_fault.Prefix (inr e) = refused_by usage_fault.Prefix e
+    by usage_fault.NotBuilt (inl e) = cc
+    by usage_fault.NotBuilt (inr e) = refused_by usage_fault.NotBuilt e
+    by usage_fault.NoMemory h = no_memory told
+
+-- a count of calls that did not fail stands
+stands : (f : Type 0) (a b : ℕ) → Counts f a b → (f → ⊥) → b ≡ a
+stands f a b (inl p) fine = absurd (fine p.0)
+stands f a b (inr p) fine = p.1
+
+stands_still : (f : Type 0) (a b : ℕ) → (b ≡ a) ⊎ f → (f → ⊥) → b ≡ a
+stands_still f a b (inl p) fine = p
+stands_still f a b (inr x) fine = absurd (fine x)
+
+rose_since : (a b c : ℕ) → a ≤ b → Rose b c → Rose a c
+rose_since a b c later rose = omega arith
+
+-- a file that was read, and then writes
+pub input_after : (input : List ℕ) (outcome : Outcome) (f : Type 0) (a b c : DepotSeen) → AfterReads input f a b → (f → ⊥) → AfterWrites (outcome ≡ WriteFault) b c → outcome ≢ ReadFault → AfterInput input outcome a c
+input_after input outcome f a b c r fine w other = record {
+  inputs = w.inputs ∙ r.inputs;
+  read_cause = λ is. absurd (other is);
+  write_cause = λ is. rose_since _ _ _ r.writes_later (w.cause is);
+  exact = λ e.
+    let P : Bool → Type 0 = IsTrue in
+    let Q : ℕ → Type 0 = λ n. Counts (outcome ≡ WriteFault) n c.write_faults in
+    let d = r.exact e in
+    let k = w.exact (subst P (sym r.is_exact) e) in
+    record {
+      reads = inr (other, k.reads input ∙ stands f _ _ d.reads fine);
+      others = λ name. inl (k.reads name ∙ stands_still f _ _ (d.others name) fine);
+      writes = subst Q d.writes k.writes;
+    };
+}
+
+-- the counts of reads that failed where the outcome says so
+counts_as : (f h : Type 0) (a b : ℕ) → Counts f a b → (f → h) → (h → f) → Counts h a b
+counts_as f h a b (inl p) to from = inl (to p.0, p.1)
+counts_as f h a b (inr p) to from = inr (λ x. p.0 (from x), p.1)
+
+others_as : (f h : Type 0) (a b : ℕ) → (b ≡ a) ⊎ f → (f → h) → (b ≡ a) ⊎ h
+others_as f h a b (inl p) to = inl p
+others_as f h a b (inr x) to = inr (to x)
+
+-- a file that could not be read, or gave no input
+no_input_after : (input : List ℕ) (outcome : Outcome) (f : Type 0) (a b : DepotSeen) → AfterReads input f a b → (f → outcome ≡ ReadFault) → (outcome ≡ ReadFault → f) → outcome ≢ WriteFault → AfterInput input outcome a b
+no_input_after input outcome f a b r to from other = record {
+  inputs = r.inputs;
+  read_cause = λ is. r.cause (from is);
+  write_cause = λ is. absurd (other is);
+  exact = λ e.
+    let d = r.exact e in
+    record {
+      reads = counts_as f _ _ _ d.reads to from;
+      others = λ name. others_as f _ _ _ (d.others name) to;
+      writes = inr (other, d.writes);
+    };
+}
+
+pub fault_after : (input : List ℕ) (fault : InputFault) (outcome : Outcome) (a b : DepotSeen) → outcome ≡ outcome_of_fault fault → AfterReads input (◌≡◌ {A = Result Input InputFault} (Err fault) (Err input_fault.ReadFault)) a b → AfterInput input outcome a b
+fault_after input fault outcome a b is after =
+    let P : Outcome → Type 0 = λ o. AfterInput input o a b in
+    subst P (sym is) (by fault after)
+  where
+    by : (f : InputFault) → AfterReads input (◌≡◌ {A = Result Input InputFault} (Err f) (Err input_fault.ReadFault)) a b → AfterInput input (outcome_of_fault f) a b
+    by (input_fault.Refused r) p = no_input_after input _ _ a b p (λ e. cc) (λ e. cc) (λ e. cc)
+    by input_fault.ReadFault p = no_input_after input _ _ a b p (λ _. refl) (λ _. refl) (λ e. cc)
+    by input_fault.NoMemory p = no_input_after input _ _ a b p (λ e. cc) (λ e. cc) (λ e. cc)
+
+-- a depot that was not called
+untouched : (input : List ℕ) (outcome : Outcome) (d : DepotSeen) → outcome ≢ ReadFault → outcome ≢ WriteFault → AfterInput input outcome d d
+untouched input outcome d read write = record {
+  inputs = refl;
+  read_cause = λ is. absurd (read is);
+  write_cause = λ is. absurd (write is);
+  exact = λ e. record { reads = inr (read, refl); others = λ name. inl refl; writes = inr (write, refl) };
+}
+
+-- words that are refused are no fault of reading or writing
+usage_is_other : (f : UsageFault) → (outcome_of_usage f ≢ ReadFault) × (outcome_of_usage f ≢ WriteFault)
+usage_is_other usage_fault.NotTheCommand = (λ e. cc, λ e. cc)
+usage_is_other usage_fault.NoInput = (λ e. cc, λ e. cc)
+usage_is_other usage_fault.TwoInputs = (λ e. cc, λ e. cc)
+usage_is_other usage_fault.Large = (λ e. cc, λ e. cc)
+usage_is_other usage_fault.Workers = (λ e. cc, λ e. cc)
+usage_is_other usage_fault.Seed = (λ e. cc, λ e. cc)
+usage_is_other usage_fault.Prefix = (λ e. cc, λ e. cc)
+usage_is_other usage_fault.NotBuilt = (λ e. cc, λ e. cc)
+usage_is_other usage_fault.NoMemory = (λ e. cc, λ e. cc)
+
+pub usage_after : (told : Result Arguments UsageFault) (fault : UsageFault) (outcome : Outcome) (d : DepotSeen) → outcome ≡ outcome_of_usage fault → AfterCall told outcome d d
+usage_after told fault outcome d is =
+    let P : Outcome → Type 0 = λ o. AfterCall told o d d in
+    subst P (sym is) (of told)
+  where
+    of : (t : Result Arguments UsageFault) → AfterCall t (outcome_of_usage fault) d d
+    of (Ok arguments) = untouched arguments.input _ d (usage_is_other fault).0 (usage_is_other fault).1
+    of (Err f) = refl

@@ -1,0 +1,90 @@
+-- What a call of the program promises: how it ended, that this was told, and when each status comes.
+use Rattle.std.specs.Prelude.{◌≡◌, ℕ, ◌⊎◌, List, Option, Some, None, Result, Ok, Err, IsTrue}
+use Rattle.clap.specs.Words.{Text}
+use Rattle.mesh_outside.specs.declared.files.File.{File}
+use Rattle.mesh_outside.specs.Depot.{DepotSeen}
+use Rattle.mesh_outside.specs.Fault.{Counts, Rose}
+use Rattle.mesh_outside.specs.Files.{input_of}
+use Rattle.mesh_outside.specs.Sink.{SinkSeen}
+use Rattle.mesh_words.specs.Arguments.{Arguments, arguments_of}
+use Rattle.mesh_words.specs.declared.fault.UsageFault.{UsageFault}
+use Rattle.mesh_outcome.specs.declared.outcome.Outcome.{Outcome}
+use Rattle.mesh_outcome.specs.declared.status.Status.{Status}
+use Rattle.mesh_outcome.specs.declared.status.Status.TheVariants as status
+use Rattle.mesh_outcome.specs.Printing.{Tells}
+use Rattle.mesh_cli.specs.Steps.{EndsWith}
+use Rattle.mesh_cli.specs.Verdicts.{Verdict, runs, lists, refused, verdict}
+
+-- what contracts see of the outside of a call: the depot and the sink
+pub record Outside : Type 0 where
+  pub depot : DepotSeen
+  pub sink : SinkSeen
+
+-- this depot and this sink
+abbrev pub outside : DepotSeen → SinkSeen → Outside
+outside depot sink = record { depot = depot; sink = sink }
+
+-- the count of read faults of the file that the words name rose
+abbrev pub NamedRose : Result Arguments UsageFault → DepotSeen → DepotSeen → Type 0
+NamedRose (Ok arguments) before after = Rose (before.read_faults arguments.input) (after.read_faults arguments.input)
+NamedRose (Err fault) before after = ⊥
+
+-- each status of a fault comes only where the count of such faults rose in the call
+pub record HasCauses (arguments : Result Arguments UsageFault) (answered : Status) (before after : Outside) : Type 0 where
+  pub read : answered ≡ status.ReadFault → NamedRose arguments before.depot after.depot
+  pub write : answered ≡ status.WriteFault → Rose before.depot.write_faults after.depot.write_faults
+  pub print : answered ≡ status.PrintFault → Rose before.sink.faults after.sink.faults
+
+-- each count that changed is told by the status: that of its fault, or that of a print which failed to tell it
+pub record TellsCounts (answered : Status) (before after : Outside) : Type 0 where
+  pub reads : (name : List ℕ) → (after.depot.read_faults name ≡ before.depot.read_faults name)
+      ⊎ ((answered ≡ status.ReadFault) ⊎ (answered ≡ status.PrintFault))
+  pub writes : (after.depot.write_faults ≡ before.depot.write_faults)
+      ⊎ ((answered ≡ status.WriteFault) ⊎ (answered ≡ status.PrintFault))
+  pub prints : Counts (answered ≡ status.PrintFault) before.sink.faults after.sink.faults
+
+-- both count exactly, and the sink takes no memory
+pub record AreExact (before : Outside) : Type 0 where
+  pub depot : IsTrue before.depot.is_exact
+  pub sink : IsTrue before.sink.is_exact
+  pub no_memory : IsTrue before.sink.takes_no_memory
+
+-- the status that a verdict calls for
+abbrev pub status_for : Verdict → Status
+status_for (runs p) = status.Done
+status_for (lists deck) = status.Done
+status_for (refused refusal) = status.Refused
+
+-- the status is this one, or memory ran out
+abbrev pub IsOrNoMemory : Status → Status → Type 0
+IsOrNoMemory wanted answered = (answered ≡ wanted) ⊎ (answered ≡ status.NoMemory)
+
+-- no count of faults rose: neither that of reads of this file, nor that of writes, nor that of prints
+pub record NoneRose (input : List ℕ) (before after : Outside) : Type 0 where
+  pub read : Rose (before.depot.read_faults input) (after.depot.read_faults input) → ⊥
+  pub write : Rose before.depot.write_faults after.depot.write_faults → ⊥
+  pub print : Rose before.sink.faults after.sink.faults → ⊥
+
+-- where no count of faults rose, arguments and a file that is told end with the status of what they come to
+abbrev pub CompletesFile : Arguments → Option (List File) → Status → Outside → Outside → Type 0
+CompletesFile arguments None answered before after = Unit {0}
+CompletesFile arguments (Some files) answered before after =
+    (bytes : List ℕ) → input_of files arguments.input ≡ Some bytes → NoneRose arguments.input before after
+    → IsOrNoMemory (status_for (verdict arguments bytes)) answered
+
+-- words that are refused end with the status of usage where the count of failed prints did not rise
+abbrev pub Completes : Result Arguments UsageFault → Status → Outside → Outside → Type 0
+Completes (Ok arguments) answered before after = CompletesFile arguments before.depot.inputs answered before after
+Completes (Err fault) answered before after =
+    (Rose before.sink.faults after.sink.faults → ⊥) → IsOrNoMemory status.Usage answered
+
+-- a call with these words: it ended with an outcome, which was told; each fault has its cause, and where counts are exact each
+-- count that rose is told; where none rose, it completed; and the inputs are as before
+pub record Ends (words : List Text) (before after : Outside) (answered : Status) : Type 0 where
+  pub outcome : Outcome
+  pub ended : EndsWith (arguments_of words) outcome before.depot after.depot
+  pub told : Tells outcome answered before.sink.printed after.sink.printed
+  pub causes : HasCauses (arguments_of words) answered before after
+  pub counts : AreExact before → TellsCounts answered before after
+  pub completes : Completes (arguments_of words) answered before after
+  pub inputs : after.depot.inputs ≡ before.depot.inputs

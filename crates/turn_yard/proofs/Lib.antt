@@ -1,0 +1,4 @@
+mod Closing
+mod Histories
+mod Keeps
+pub mod Sharing
