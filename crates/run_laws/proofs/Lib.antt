@@ -1,0 +1,5 @@
+pub mod CycleMeshes
+pub mod CycleTotals
+pub mod TagFacts
+pub mod RunTrees
+pub mod RunRows
