@@ -11,15 +11,16 @@ ghost use Rattle.input_file.specs.Decks.{deck, greatest_length};
 
 use crate::fault::NoMemory;
 use crate::keys::Keys;
+use crate::map::TextMap;
 use crate::print::print_header;
-use indexmap::IndexMap;
 use std::alloc::Global;
+use std::hash::BuildHasherDefault;
 use std::marker::Model;
 
 /// The blocks of an input file in the order in which they came, each with a list of keys with values.
 #[derive(Drop)]
 pub struct Deck {
-    blocks: IndexMap<String, Keys>,
+    blocks: TextMap<Keys>,
 }
 
 impl Model for Deck {
@@ -41,7 +42,7 @@ impl Deck {
         ensures { result ≡ [] }
     {
         Deck {
-            blocks: IndexMap::new(alloc),
+            blocks: TextMap::with_hasher(alloc, BuildHasherDefault::new()),
         }
     }
 

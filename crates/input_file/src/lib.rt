@@ -9,6 +9,7 @@ mod deck;
 mod fault;
 mod keys;
 mod line;
+mod map;
 mod overrides;
 mod print;
 mod reader;
