@@ -90,10 +90,7 @@ impl<'a, R: FileSystem> Depot for FileDepot<'a, R> {
         ensures memory { result ≡ Err OutFault.NoMemory → ⊥ }
         ensures after { AfterWrites (result ≡ Err OutFault.Failed) (seen_files self.old) (seen_files self.new) }
     {
-        counted(
-            append_to(&mut self.writing, bytes),
-            &mut self.failed_writes,
-        )
+        counted(append_to(&mut self.writing, bytes), &mut self.failed_writes)
     }
 
     fn finish(&mut self) -> Result<(), OutFault>
