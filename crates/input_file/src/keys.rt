@@ -67,7 +67,8 @@ impl Keys {
 
     /// Appends the lines of the keys.
     pub fn print(&self, text: &mut String) -> Result<(), NoMemory>
-        ensures { OnOk result (string_bytes text.new ≡ string_bytes text.old ++ text_of_lines (setting_lines self.now)) }
+        ensures { OnOk result (string_bytes text.new
+            ≡ string_bytes text.old ++ text_of_lines (setting_lines self.now)) }
     {
         for i in 0..self.map.len() {
             let (key, value) = self.map.get_index(i).unwrap();
