@@ -1,6 +1,6 @@
 -- What a call of the program promises: how it ended, that this was told, and when each status comes.
 use Rattle.std.specs.Prelude.{◌≡◌, ℕ, ◌⊎◌, List, Option, Some, None, Result, Ok, Err, IsTrue}
-use Rattle.clap.specs.Words.{Text}
+use Rattle.input_file.specs.Texts.{Text}
 use Rattle.mesh_outside.specs.declared.files.File.{File}
 use Rattle.mesh_outside.specs.Depot.{DepotSeen}
 use Rattle.mesh_outside.specs.Fault.{Counts, Rose}
