@@ -15,7 +15,7 @@ trap 'rm -rf "$folder"' EXIT
 
 write_deck() {
     printf '<parthenon/mesh>\nnx1 = 4\n<parthenon/time>\nnlim = 0\n<m>\n'
-    awk -v start="$1" -v count="$count" 'BEGIN { for (n = 0; n < count; n++) printf "%s%08d = 1\n", start, n }'
+    awk -v start="$1" -v count="$count" 'BEGIN { for (n = 0; n < count; n++) printf "%s%08d=\n", start, n }'
 }
 
 measure() {
@@ -26,7 +26,7 @@ measure() {
 }
 
 colliding='k000000000004204)l`fdXZ\\'
-other='k000000000000000000000000'
+other='k00000000000000000000000'
 write_deck "$colliding" >"$folder/colliding.in"
 write_deck "$other" >"$folder/other.in"
 write_deck x | head -n 4 >"$folder/short.in"

@@ -99,7 +99,7 @@ fn colliding_keys(alloc: Global) -> Result<String, AllocError> {
     let mut text = String::from_str(alloc, "<m>\n")?;
     for number in 0..30_000u32 {
         let key = colliding_key(alloc, number)?;
-        writeln!(text, "{key} = {number}")?;
+        writeln!(text, "{key}=")?;
     }
     Ok(text)
 }
@@ -246,7 +246,7 @@ fn keys_that_collide_under_a_common_hash_are_read(rt: HostRuntime) -> Result<(),
     let text = colliding_keys(alloc)?;
     let mut deck = parse(alloc, text.as_bytes())?;
     let last = colliding_key(alloc, 29_999)?;
-    assert_eq!(rt; deck.get("m", last.as_str()), Some("29999"));
+    assert_eq!(rt; deck.get("m", last.as_str()), Some(""));
     for number in 0..30_000u32 {
         let word = format!(in alloc; "m/k000000000004204)l`fdXZ\\{number:08}=x")?;
         deck.apply(word.as_str())?;
