@@ -1,5 +1,5 @@
 -- The reactions of a problem are a kernel.
-use Rattle.std.proofs.Common.{◌≡◌, ◌≢◌, inl, inr, ℕ, zero, suc, ◌+◌, ◌-◌, ◌*◌, ◌/◌, ◌<◌, ◌≤◌, List, [], ◌∷◌, length, get_or, set, All, refl, arith, ap, subst, sym, ◌∙◌, sum, get_or-set_same, get_or-set_other}
+use Rattle.std.proofs.Common.{◌≡◌, ◌≢◌, inl, inr, ℕ, zero, suc, ◌+◌, ◌-◌, ◌*◌, ◌<◌, ◌≤◌, List, [], ◌∷◌, length, get_or, set, refl, arith, ap, subst, sym, ◌∙◌, sum, get_or-set_same, get_or-set_other}
 use Rattle.std.specs.Prelude.{replicate, slice_index}
 use Rattle.std.specs.List.{fold}
 use Rattle.std.proofs.Math.ListN.{length-set}
@@ -8,10 +8,9 @@ use Rattle.std.proofs.lemmas.Bool.{cases_eq}
 use Rattle.std.proofs.lemmas.List.Elements.{All-get_or}
 use Rattle.std.proofs.lemmas.List.Sums.{sum_by-set}
 use Rattle.mesh_num.specs.Portion.{portion}
-use Rattle.package_fields.specs.Kernel.{Balances, KernelLaws, Reacted, nothing}
+use Rattle.package_fields.specs.Kernel.{Reacted, nothing}
 use Rattle.problem_set.specs.SoundEntries.{IsReaction}
 use Rattle.problem_set.specs.declared.entries.Reaction.{Reaction}
-use Rattle.mesh_rules.specs.Sums.{sum_to}
 use Rattle.mesh_rules.specs.Reaction.{added, after_reaction, before_reactions, moved_by, react_cell, taken}
 use Rattle.mesh_laws.specs.ReactionLaws.{ReactionsAreKernel}
 use Rattle.mesh_laws.proofs.Pays.{portion_nothing, term_least}
