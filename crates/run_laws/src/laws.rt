@@ -1,5 +1,6 @@
 //! Laws of cycles and runs.
 
+ghost use Rattle.run_laws.specs.BoundLaws.{NoSumPassesTheBound, NoTotalFallsBelowZero, RunsStayWithin, SumGrowsByInflow};
 ghost use Rattle.run_laws.specs.HistoryLaws.{CyclesBalance, HistoryBalances};
 ghost use Rattle.run_laws.specs.TreeLaws.{NextIsLeastTree, OpeningIsLeastTree, RunsStandOnTrees};
 
@@ -16,4 +17,14 @@ pub fn tree_laws()
 pub fn history_law()
     ensures cycles { CyclesBalance }
     ensures rows { HistoryBalances }
+{}
+
+/// In each cycle from a mesh of a problem no total falls below zero, the sum of all totals grows by at most what the
+/// problem counts as inflow, and where there is room for that it is at most 2^62 - 1 on each mesh of the cycle. Each
+/// state with which a cycle of a run starts leaves that room.
+pub fn bound_laws()
+    ensures paid { NoTotalFallsBelowZero }
+    ensures grows { SumGrowsByInflow }
+    ensures bounded { NoSumPassesTheBound }
+    ensures runs { RunsStayWithin }
 {}
