@@ -40,6 +40,11 @@ pub data Event : Type 0 where
 abbrev pub put : {A : Type 0} → (ℕ → A) → ℕ → A → ℕ → A
 put f i v j = cond (j == i) v (f j)
 
+-- what holds of each of a list
+abbrev pub Each : {A : Type 0} → (A → Type 0) → List A → Type 0
+Each P [] = Unit {0}
+Each P (x ∷ xs) = P x × Each P xs
+
 -- whether a letter is that of a round about x; and whether it is one of a round for a list
 abbrev pub is_of : {X P : Type 0} → Plan X → ℕ → X → Letter X P → Bool
 is_of p r x l = l.round == r && p.same x l.of

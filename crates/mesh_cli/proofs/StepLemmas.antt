@@ -7,7 +7,8 @@ use Rattle.mesh_outside.specs.declared.files.File.{File}
 use Rattle.mesh_outside.specs.declared.files.Gained.{Gained}
 use Rattle.mesh_outside.specs.Depot.{DepotSeen, AfterReads, AfterWrites}
 use Rattle.mesh_outside.specs.Fault.{Counts, Rose}
-use Rattle.mesh_words.specs.Arguments.{Arguments}
+use Rattle.deck_generator.specs.Generated.{generated}
+use Rattle.mesh_words.specs.Arguments.{Arguments, Source, from_file, from_seed}
 use Rattle.mesh_words.specs.declared.fault.UsageFault.{UsageFault}
 use Rattle.mesh_words.specs.declared.fault.UsageFault.TheVariants as usage_fault
 use Rattle.mesh_input.specs.declared.input.Input.{Input}
@@ -17,10 +18,10 @@ use Rattle.mesh_input.specs.declared.fault.InputFault.{InputFault}
 use Rattle.mesh_input.specs.declared.fault.InputFault.TheVariants as input_fault
 use Rattle.mesh_outcome.specs.declared.outcome.Outcome.{Outcome}
 use Rattle.mesh_outcome.specs.declared.outcome.Outcome.TheVariants.{Done, Listed, Usage, Refused, ReadFault, WriteFault, NoMemory}
-use Rattle.mesh_input.specs.Input.{SeenInput}
+use Rattle.mesh_input.specs.Input.{Answers, SeenInput, deck_read, input_with, seen_input}
 use Rattle.mesh_input.specs.File.{AnswersFile, Gives}
-use Rattle.mesh_cli.specs.Steps.{AfterCall, AfterInput, EndsAccepted, EndsBy, EndsWith, RunEnds, outcome_of_fault, outcome_of_usage}
-use Rattle.mesh_cli.specs.Verdicts.{ComesTo, Verdict, lists, refused, runs, verdict_by, verdict_on}
+use Rattle.mesh_cli.specs.Steps.{AfterCall, AfterInput, AfterSource, AfterTaking, EndsAccepted, EndsBy, EndsWith, RunEnds, outcome_of_fault, outcome_of_usage}
+use Rattle.mesh_cli.specs.Verdicts.{AnswersSource, GivesDeck, GivesInput, Verdict, lists, refused, runs, verdict_on}
 
 -- a deck that is listed
 pub listed_ends : (prefix : List ℕ) (listed : Bool) (i : SeenInput) (w : Option (List Gained)) → listed ≡ true → EndsBy prefix (verdict_on listed i) (Listed i.deck) w w
@@ -42,30 +43,59 @@ run_ends prefix listed i outcome old new is built ends =
     let Q : Bool → Type 0 = λ b. EndsBy prefix (if b then runs i.problem else refused NotBuilt) outcome old new in
     subst P (sym is) (subst Q (sym built) ends)
 
--- what a file gives is what the words come to
-comes : (inputs : Option (List File)) (arguments : Arguments) (given : Result SeenInput Refusal) → Gives inputs arguments.input arguments.overrides given → ComesTo inputs arguments (verdict_by arguments.prints_deck given)
-comes inputs arguments given gives = record { bytes = gives.bytes; are_there = gives.are_there; verdict_is = ap (verdict_by arguments.prints_deck) gives.given_is }
-
 -- an input that was accepted decides how the call ends
-pub input_ends : (arguments : Arguments) (i : SeenInput) (outcome : Outcome) (old mid new : DepotSeen) → Gives old.inputs arguments.input arguments.overrides (Ok i) → mid.written ≡ old.written → EndsBy arguments.prefix (verdict_on arguments.prints_deck i) outcome mid.written new.written → EndsAccepted arguments outcome old new
+pub input_ends : (arguments : Arguments) (i : SeenInput) (outcome : Outcome) (old mid new : DepotSeen) → GivesInput old.inputs arguments (Ok i) → mid.written ≡ old.written → EndsBy arguments.prefix (verdict_on arguments.prints_deck i) outcome mid.written new.written → EndsAccepted arguments outcome old new
 input_ends arguments i outcome old mid new gives same ends =
     let P : Option (List Gained) → Type 0 = λ w. EndsBy arguments.prefix (verdict_on arguments.prints_deck i) outcome w new.written in
     inr (record {
       verdict = verdict_on arguments.prints_deck i;
-      comes_to = comes old.inputs arguments (Ok i) gives;
+      comes_to = record { given = Ok i; is_given = gives; verdict_is = refl };
       ends = subst P same ends;
     })
 
 -- a call that has no input
-pub fault_ends : (arguments : Arguments) (fault : InputFault) (outcome : Outcome) (old new : DepotSeen) → outcome ≡ outcome_of_fault fault → AnswersFile old.inputs arguments.input arguments.overrides (Err fault) → new.written ≡ old.written → EndsAccepted arguments outcome old new
+pub fault_ends : (arguments : Arguments) (fault : InputFault) (outcome : Outcome) (old new : DepotSeen) → outcome ≡ outcome_of_fault fault → AnswersSource old.inputs arguments (Err fault) → new.written ≡ old.written → EndsAccepted arguments outcome old new
 fault_ends arguments fault outcome old new is told same =
     let P : Outcome → Type 0 = λ o. EndsAccepted arguments o old new in
     subst P (sym is) (by fault told)
   where
-    by : (f : InputFault) → AnswersFile old.inputs arguments.input arguments.overrides (Err f) → EndsAccepted arguments (outcome_of_fault f) old new
-    by (input_fault.Refused r) gives = inr (record { verdict = refused r; comes_to = comes old.inputs arguments (Err r) gives; ends = (refl, same) })
+    by : (f : InputFault) → AnswersSource old.inputs arguments (Err f) → EndsAccepted arguments (outcome_of_fault f) old new
+    by (input_fault.Refused r) gives = inr (record { verdict = refused r; comes_to = record { given = Err r; is_given = gives; verdict_is = refl }; ends = (refl, same) })
     by input_fault.ReadFault _ = inl same
     by input_fault.NoMemory _ = inl same
+
+-- what a file answers is what its source does
+pub file_answers : (inputs : Option (List File)) (arguments : Arguments) (name : List ℕ) (result : Result Input InputFault) → arguments.source ≡ from_file name → AnswersFile inputs name arguments.overrides result → AnswersSource inputs arguments result
+file_answers inputs arguments name result e told = by result told
+  where
+    gives : (given : Result SeenInput Refusal) → Gives inputs name arguments.overrides given → GivesInput inputs arguments given
+    gives given g = record { deck = deck_read g.bytes; is_deck = subst (λ (s : Source). GivesDeck inputs s (deck_read g.bytes)) (sym e) (g.bytes, (g.are_there, refl)); given_is = g.given_is }
+
+    by : (r : Result Input InputFault) → AnswersFile inputs name arguments.overrides r → AnswersSource inputs arguments r
+    by (Ok input) t = gives (Ok (seen_input input)) t
+    by (Err (input_fault.Refused r)) t = gives (Err r) t
+    by (Err input_fault.ReadFault) t = tt
+    by (Err input_fault.NoMemory) t = tt
+
+-- what a seed answers is what its source does
+pub seed_answers : (inputs : Option (List File)) (arguments : Arguments) (seed : ℕ) (large : Bool) (result : Result Input InputFault) → arguments.source ≡ from_seed seed large → Answers seen_input result (input_with (generated seed large) arguments.overrides) → AnswersSource inputs arguments result
+seed_answers inputs arguments seed large result e told = by result told
+  where
+    gives : (given : Result SeenInput Refusal) → input_with (generated seed large) arguments.overrides ≡ given → GivesInput inputs arguments given
+    gives given g = record { deck = Ok (generated seed large); is_deck = subst (λ (s : Source). GivesDeck inputs s (Ok (generated seed large))) (sym e) refl; given_is = g }
+
+    by : (r : Result Input InputFault) → Answers seen_input r (input_with (generated seed large) arguments.overrides) → AnswersSource inputs arguments r
+    by (Ok input) t = gives (Ok (seen_input input)) t
+    by (Err (input_fault.Refused r)) t = gives (Err r) t
+    by (Err input_fault.ReadFault) t = tt
+    by (Err input_fault.NoMemory) t = tt
+
+-- a seed answers no fault of reading
+pub seed_reads_nothing : (result : Result Input InputFault) (given : Result SeenInput Refusal) → Answers seen_input result given → result ≡ Err input_fault.ReadFault → ⊥
+seed_reads_nothing (Ok input) given told is = cc
+seed_reads_nothing (Err (input_fault.Refused r)) given told is = cc
+seed_reads_nothing (Err input_fault.ReadFault) given told is = absurd told
+seed_reads_nothing (Err input_fault.NoMemory) given told is = cc
 
 -- a call whose words are refused
 pub usage_ends : (told : Result Arguments UsageFault) (fault : UsageFault) (outcome : Outcome) (d : DepotSeen) → outcome ≡ outcome_of_usage fault → (fault ≡ usage_fault.NoMemory) ⊎ (told ≡ Err fault) → EndsWith told outcome d d
@@ -165,6 +195,41 @@ fault_after input fault outcome a b is after =
     by input_fault.ReadFault p = no_input_after input _ _ a b p (λ _. refl) (λ _. refl) (λ e. cc)
     by input_fault.NoMemory p = no_input_after input _ _ a b p (λ e. cc) (λ e. cc) (λ e. cc)
 
+-- a source that was taken leaves the files as they were
+pub taken_written : (source : Source) (f : Type 0) (a b : DepotSeen) → AfterTaking source f a b → b.written ≡ a.written
+taken_written (from_file name) f a b t = t.written
+taken_written (from_seed seed large) f a b t = ap (λ (d : DepotSeen). d.written) t.0
+
+-- a source that was taken, and then writes
+pub source_after : (source : Source) (outcome : Outcome) (f : Type 0) (a b c : DepotSeen) → AfterTaking source f a b → (f → ⊥) → AfterWrites (outcome ≡ WriteFault) b c → outcome ≢ ReadFault → AfterSource source outcome a c
+source_after (from_file name) outcome f a b c t fine w other = input_after name outcome f a b c t fine w other
+source_after (from_seed seed large) outcome f a b c t fine w other = (subst (λ (d : DepotSeen). AfterWrites (outcome ≡ WriteFault) d c) t.0 w, other)
+
+-- nothing was written
+no_writes : (f : Type 0) (d : DepotSeen) → (f → ⊥) → AfterWrites f d d
+no_writes f d none = record {
+  inputs = refl;
+  is_exact = refl;
+  reads_later = λ name. omega arith;
+  writes_later = omega arith;
+  cause = λ x. absurd (none x);
+  exact = λ e. record { reads = λ name. refl; writes = inr (none, refl) };
+}
+
+-- a source that gave no input
+pub source_fault_after : (source : Source) (fault : InputFault) (outcome : Outcome) (a b : DepotSeen) → outcome ≡ outcome_of_fault fault → AfterTaking source (◌≡◌ {A = Result Input InputFault} (Err fault) (Err input_fault.ReadFault)) a b → AfterSource source outcome a b
+source_fault_after (from_file name) fault outcome a b is t = fault_after name fault outcome a b is t
+source_fault_after (from_seed seed large) fault outcome a b is t =
+    let P : Outcome → Type 0 = λ o. AfterWrites (o ≡ WriteFault) a b × (o ≢ ReadFault) in
+    let Q : DepotSeen → Type 0 = λ d. AfterWrites (outcome_of_fault fault ≡ WriteFault) a d in
+    let n = other fault t.1 in
+    subst P (sym is) (subst Q (sym t.0) (no_writes (outcome_of_fault fault ≡ WriteFault) a n.0), n.1)
+  where
+    other : (f : InputFault) → (◌≡◌ {A = Result Input InputFault} (Err f) (Err input_fault.ReadFault) → ⊥) → (outcome_of_fault f ≢ WriteFault) × (outcome_of_fault f ≢ ReadFault)
+    other (input_fault.Refused r) none = (λ e. cc, λ e. cc)
+    other input_fault.ReadFault none = absurd (none refl)
+    other input_fault.NoMemory none = (λ e. cc, λ e. cc)
+
 -- a depot that was not called
 untouched : (input : List ℕ) (outcome : Outcome) (d : DepotSeen) → outcome ≢ ReadFault → outcome ≢ WriteFault → AfterInput input outcome d d
 untouched input outcome d read write = record {
@@ -191,6 +256,10 @@ usage_after told fault outcome d is =
     let P : Outcome → Type 0 = λ o. AfterCall told o d d in
     subst P (sym is) (of told)
   where
+    by : (source : Source) → AfterSource source (outcome_of_usage fault) d d
+    by (from_file name) = untouched name _ d (usage_is_other fault).0 (usage_is_other fault).1
+    by (from_seed seed large) = (no_writes (outcome_of_usage fault ≡ WriteFault) d (usage_is_other fault).1, (usage_is_other fault).0)
+
     of : (t : Result Arguments UsageFault) → AfterCall t (outcome_of_usage fault) d d
-    of (Ok arguments) = untouched arguments.input _ d (usage_is_other fault).0 (usage_is_other fault).1
+    of (Ok arguments) = by arguments.source
     of (Err f) = refl

@@ -1,14 +1,17 @@
 -- What a call promises, from how it ended and what was told of it.
-use Rattle.std.proofs.Common.{◌≡◌, ◌≢◌, ℕ, ◌⊎◌, inl, inr, List, Option, Some, None, Result, Ok, Err, refl, sym, ◌∙◌, ap, subst}
+use Rattle.std.proofs.Common.{◌≡◌, ◌≢◌, IsTrue, ℕ, ◌⊎◌, inl, inr, List, Option, Some, None, Result, Ok, Err, refl, sym, ◌∙◌, ap, subst}
 use Rattle.mesh_outside.specs.declared.files.File.{File}
 use Rattle.mesh_outside.specs.declared.files.Gained.{Gained}
 use Rattle.mesh_outside.specs.Depot.{DepotSeen}
 use Rattle.mesh_outside.specs.Fault.{Counts, Rose}
 use Rattle.mesh_outside.specs.Files.{input_of}
 use Rattle.mesh_outside.specs.Sink.{SinkSeen}
-use Rattle.mesh_words.specs.Arguments.{Arguments}
+use Rattle.input_file.specs.Blocks.{Blocks}
+use Rattle.deck_generator.specs.Generated.{generated}
+use Rattle.mesh_input.specs.declared.fault.Refusal.{Refusal as InputRefusal}
+use Rattle.mesh_input.specs.Input.{deck_read}
+use Rattle.mesh_words.specs.Arguments.{Arguments, Source, from_file, from_seed}
 use Rattle.mesh_words.specs.declared.fault.UsageFault.{UsageFault}
-use Rattle.mesh_input.specs.File.{HasInput}
 use Rattle.mesh_outcome.specs.declared.outcome.Outcome.{Outcome}
 use Rattle.mesh_outcome.specs.declared.outcome.Outcome.TheVariants.{Done, Listed, Usage, Refused, ReadFault, WriteFault, NoMemory}
 use Rattle.mesh_outcome.specs.declared.status.Status.{Status}
@@ -16,9 +19,9 @@ use Rattle.mesh_outcome.specs.declared.status.Status.TheVariants as status
 use Rattle.mesh_outcome.specs.Lines.{IsFixed}
 use Rattle.mesh_outcome.specs.Outcome.{status_of}
 use Rattle.mesh_outcome.specs.Printing.{AfterReport, Tells}
-use Rattle.mesh_cli.specs.Steps.{AfterCall, EndsAccepted, EndsBy, EndsUnread, EndsWith}
-use Rattle.mesh_cli.specs.TopCall.{AreExact, Completes, CompletesFile, HasCauses, IsOrNoMemory, NamedRose, NoneRose, Outside, TellsCounts, status_for}
-use Rattle.mesh_cli.specs.Verdicts.{Verdict, runs, lists, refused, verdict}
+use Rattle.mesh_cli.specs.Steps.{AfterCall, AfterSource, EndsAccepted, EndsBy, EndsUnread, EndsWith}
+use Rattle.mesh_cli.specs.TopCall.{AreExact, Completes, CompletesSource, CompletesWith, HasCauses, IsOrNoMemory, NamedRose, NoneRose, Outside, SourceRose, TellsCounts, status_for}
+use Rattle.mesh_cli.specs.Verdicts.{Verdict, runs, lists, refused, verdict, verdict_by, GivesDeck}
 
 -- a status that was told is the outcome's own, or that of printing, or that of memory
 told_status : (o : Outcome) (s : Status) (old new : Option (List ℕ)) → Tells o s old new → (s ≡ status_of o) ⊎ ((s ≡ status.PrintFault) ⊎ (s ≡ status.NoMemory))
@@ -69,11 +72,20 @@ no_writing : (fault : UsageFault) → (WriteFault ≡ Usage fault) ⊎ (WriteFau
 no_writing fault (inl e) = cc
 no_writing fault (inr e) = cc
 
+-- a fault of reading has its cause in the source, and one of writing its own
+source_read : (source : Source) (o : Outcome) (before after : DepotSeen) → AfterSource source o before after → o ≡ ReadFault → SourceRose source before after
+source_read (from_file name) o before after call is = call.read_cause is
+source_read (from_seed seed large) o before after call is = call.1 is
+
+source_write : (source : Source) (o : Outcome) (before after : DepotSeen) → AfterSource source o before after → o ≡ WriteFault → Rose before.write_faults after.write_faults
+source_write (from_file name) o before after call is = call.write_cause is
+source_write (from_seed seed large) o before after call is = call.0.cause is
+
 -- each status of a fault has its cause
 pub causes : (arguments : Result Arguments UsageFault) (o : Outcome) (s : Status) (before after : Outside) → EndsWith arguments o before.depot after.depot → AfterCall arguments o before.depot after.depot → Tells o s before.sink.printed after.sink.printed → AfterReport o s before.sink after.sink → HasCauses arguments s before after
 causes (Ok a) o s before after ended call told report = record {
-  read = λ is. call.read_cause (told_reading o s (told_status o s _ _ told) is);
-  write = λ is. call.write_cause (told_writing o s (told_status o s _ _ told) is);
+  read = λ is. source_read a.source o before.depot after.depot call (told_reading o s (told_status o s _ _ told) is);
+  write = λ is. source_write a.source o before.depot after.depot call (told_writing o s (told_status o s _ _ told) is);
   print = report.cause;
 }
 causes (Err fault) o s before after ended call told report = record {
@@ -96,15 +108,22 @@ writes_told : (o : Outcome) (s : Status) (a b : ℕ) → Counts (o ≡ WriteFaul
 writes_told o s a b (inl p) told = inr (fault_told o WriteFault s p.0 tt told)
 writes_told o s a b (inr p) told = inl p.1
 
+-- where a depot counts exactly, the counts of reads stand, or reading failed
+source_reads : (source : Source) (o : Outcome) (before after : DepotSeen) → AfterSource source o before after → IsTrue before.is_exact → (name : List ℕ) → (after.read_faults name ≡ before.read_faults name) ⊎ (o ≡ ReadFault)
+source_reads (from_file input) o before after call e name = (call.exact e).others name
+source_reads (from_seed seed large) o before after call e name = inl ((call.0.exact e).reads name)
+
+source_writes : (source : Source) (o : Outcome) (before after : DepotSeen) → AfterSource source o before after → IsTrue before.is_exact → Counts (o ≡ WriteFault) before.write_faults after.write_faults
+source_writes (from_file input) o before after call e = (call.exact e).writes
+source_writes (from_seed seed large) o before after call e = (call.0.exact e).writes
+
 -- each count that rose is told
 pub counts : (arguments : Result Arguments UsageFault) (o : Outcome) (s : Status) (before after : Outside) → AfterCall arguments o before.depot after.depot → AfterReport o s before.sink after.sink → AreExact before → TellsCounts s before after
-counts (Ok a) o s before after call report exact =
-    let k = call.exact exact.depot in
-    record {
-      reads = λ name. reads_told o s _ _ (k.others name) (report.memory exact.no_memory);
-      writes = writes_told o s _ _ k.writes (report.memory exact.no_memory);
-      prints = report.exact exact.sink;
-    }
+counts (Ok a) o s before after call report exact = record {
+  reads = λ name. reads_told o s _ _ (source_reads a.source o before.depot after.depot call exact.depot name) (report.memory exact.no_memory);
+  writes = writes_told o s _ _ (source_writes a.source o before.depot after.depot call exact.depot) (report.memory exact.no_memory);
+  prints = report.exact exact.sink;
+}
 counts (Err fault) o s before after call report exact = record {
   reads = λ name. inl (ap (λ (d : DepotSeen). d.read_faults name) call);
   writes = inl (ap (λ (d : DepotSeen). d.write_faults) call);
@@ -113,7 +132,11 @@ counts (Err fault) o s before after call report exact = record {
 
 -- the inputs are as before
 pub inputs_stay : (arguments : Result Arguments UsageFault) (o : Outcome) (old new : DepotSeen) → AfterCall arguments o old new → new.inputs ≡ old.inputs
-inputs_stay (Ok a) o old new call = call.inputs
+inputs_stay (Ok a) o old new call = by a.source call
+  where
+    by : (source : Source) → AfterSource source o old new → new.inputs ≡ old.inputs
+    by (from_file name) c = c.inputs
+    by (from_seed seed large) c = c.0.inputs
 inputs_stay (Err fault) o old new call = ap (λ (d : DepotSeen). d.inputs) call
 
 -- how a verdict ends a call where no write failed
@@ -128,26 +151,36 @@ verdict_ends prefix (runs p) NoMemory old new ends none = inr refl
 verdict_ends prefix (lists deck) o old new ends none = inl (ap status_of ends.0)
 verdict_ends prefix (refused r) o old new ends none = inl (ap status_of ends.0)
 
--- how arguments and a told file end a call where nothing failed
-file_ends : (arguments : Arguments) (o : Outcome) (files : List File) (old new : DepotSeen) (bytes : List ℕ) → old.inputs ≡ Some files → EndsAccepted arguments o old new → input_of files arguments.input ≡ Some bytes → (o ≡ ReadFault → ⊥) → (o ≡ WriteFault → ⊥) → IsOrNoMemory (status_for (verdict arguments bytes)) (status_of o)
-file_ends arguments o files old new bytes told (inl unread) there no_read no_write = of o unread no_read
+-- how arguments end a call where nothing failed, whose source gives this deck alone
+deck_ends : (arguments : Arguments) (o : Outcome) (old new : DepotSeen) (deck : Result Blocks InputRefusal) → ((d : Result Blocks InputRefusal) → GivesDeck old.inputs arguments.source d → d ≡ deck) → EndsAccepted arguments o old new → (o ≡ ReadFault → ⊥) → (o ≡ WriteFault → ⊥) → IsOrNoMemory (status_for (verdict arguments deck)) (status_of o)
+deck_ends arguments o old new deck alone (inl unread) no_read no_write = of o unread no_read
   where
-    of : (p : Outcome) → EndsUnread p old.written new.written → (p ≡ ReadFault → ⊥) → IsOrNoMemory (status_for (verdict arguments bytes)) (status_of p)
+    of : (p : Outcome) → EndsUnread p old.written new.written → (p ≡ ReadFault → ⊥) → IsOrNoMemory (status_for (verdict arguments deck)) (status_of p)
     of (Done cycles blocks total) h none = absurd h
-    of (Listed deck) h none = absurd h
+    of (Listed d) h none = absurd h
     of (Usage fault) h none = absurd h
     of (Refused refusal) h none = absurd h
     of ReadFault h none = absurd (none refl)
     of WriteFault h none = absurd h
     of NoMemory h none = inr refl
-file_ends arguments o files old new bytes told (inr j) there no_read no_write =
-    let Q : Option (List File) → Type 0 = λ i. HasInput i arguments.input j.comes_to.bytes in
-    let has : input_of files arguments.input ≡ Some j.comes_to.bytes = subst Q told j.comes_to.are_there in
-    let same_input : Some j.comes_to.bytes ≡ Some bytes = sym has ∙ there in
-    let same : j.comes_to.bytes ≡ bytes = cc in
-    let v_is : j.verdict ≡ verdict arguments bytes = sym j.comes_to.verdict_is ∙ ap (verdict arguments) same in
+deck_ends arguments o old new deck alone (inr j) no_read no_write =
+    let g = j.comes_to.is_given in
+    let v_is : j.verdict ≡ verdict arguments deck = sym j.comes_to.verdict_is ∙ ap (verdict_by arguments.prints_deck) (sym g.given_is) ∙ ap (verdict arguments) (alone g.deck g.is_deck) in
     let P : Verdict → Type 0 = λ v. IsOrNoMemory (status_for v) (status_of o) in
     subst P v_is (verdict_ends arguments.prefix j.verdict o old.written new.written j.ends no_write)
+
+-- a file that is told gives one deck
+one_deck : (inputs : Option (List File)) (files : List File) (name bytes : List ℕ) (source : Source) (d : Result Blocks InputRefusal) → inputs ≡ Some files → source ≡ from_file name → input_of files name ≡ Some bytes → GivesDeck inputs source d → d ≡ deck_read bytes
+one_deck inputs files name bytes source d told e there given =
+    let P : Option (List File) → Type 0 = λ i. GivesDeck i (from_file name) d in
+    let g = subst P told (subst (λ (s : Source). GivesDeck inputs s d) e given) in
+    let same_input : Some g.0 ≡ Some bytes = sym g.1.0 ∙ there in
+    let same : g.0 ≡ bytes = cc in
+    sym g.1.1 ∙ ap deck_read same
+
+-- a seed gives one deck
+seed_deck : (inputs : Option (List File)) (seed : ℕ) (large : Bool) (source : Source) (d : Result Blocks InputRefusal) → source ≡ from_seed seed large → GivesDeck inputs source d → d ≡ Ok (generated seed large)
+seed_deck inputs seed large source d e given = subst (λ (s : Source). GivesDeck inputs s d) e given
 
 -- the outcome's own status was told where no print failed
 told_own : (o : Outcome) (s wanted : Status) → (s ≡ status_of o) ⊎ ((s ≡ status.PrintFault) ⊎ (s ≡ status.NoMemory)) → (s ≡ status.PrintFault → ⊥) → IsOrNoMemory wanted (status_of o) → IsOrNoMemory wanted s
@@ -164,10 +197,14 @@ usage_told o fault (inr e) = inr (ap status_of e)
 pub completes : (arguments : Result Arguments UsageFault) (o : Outcome) (s : Status) (before after : Outside) → EndsWith arguments o before.depot after.depot → AfterCall arguments o before.depot after.depot → Tells o s before.sink.printed after.sink.printed → AfterReport o s before.sink after.sink → Completes arguments s before after
 completes (Err fault) o s before after ended call told report =
     λ no_print. told_own o s status.Usage (told_status o s _ _ told) (λ e. no_print (report.cause e)) (usage_told o fault ended.0)
-completes (Ok arguments) o s before after ended call told report = by before.depot.inputs refl
+completes (Ok arguments) o s before after ended call told report = by arguments.source refl before.depot.inputs refl
   where
-    by : (inputs : Option (List File)) → before.depot.inputs ≡ inputs → CompletesFile arguments inputs s before after
-    by None is = tt
-    by (Some files) is = λ bytes there none.
-        told_own o s (status_for (verdict arguments bytes)) (told_status o s _ _ told) (λ e. none.print (report.cause e))
-        (file_ends arguments o files before.depot after.depot bytes is ended there (λ e. none.read (call.read_cause e)) (λ e. none.write (call.write_cause e)))
+    own : (deck : Result Blocks InputRefusal) → ((d : Result Blocks InputRefusal) → GivesDeck before.depot.inputs arguments.source d → d ≡ deck) → CompletesWith arguments deck s before after
+    own deck alone = λ none.
+        told_own o s (status_for (verdict arguments deck)) (told_status o s _ _ told) (λ e. none.print (report.cause e))
+        (deck_ends arguments o before.depot after.depot deck alone ended (λ e. none.read (source_read arguments.source o before.depot after.depot call e)) (λ e. none.write (source_write arguments.source o before.depot after.depot call e)))
+
+    by : (source : Source) → arguments.source ≡ source → (inputs : Option (List File)) → before.depot.inputs ≡ inputs → CompletesSource source arguments inputs s before after
+    by (from_file name) e None told_by = tt
+    by (from_file name) e (Some files) told_by = λ bytes there. own (deck_read bytes) (λ d given. one_deck before.depot.inputs files name bytes arguments.source d told_by e there given)
+    by (from_seed seed large) e inputs told_by = own (Ok (generated seed large)) (λ d given. seed_deck before.depot.inputs seed large arguments.source d e given)

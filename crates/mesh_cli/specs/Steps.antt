@@ -1,12 +1,12 @@
 -- How the steps of a call end, and what its depot has gained then.
-use Rattle.std.specs.Prelude.{◌≡◌, ℕ, ◌⊎◌, List, Option, Result, Ok, Err, IsTrue}
+use Rattle.std.specs.Prelude.{◌≡◌, ◌≢◌, ℕ, ◌⊎◌, List, Option, Result, Ok, Err, IsTrue}
 use Rattle.problem_set.specs.Settings.{Settings}
 use Rattle.mesh_outside.specs.declared.files.File.{File}
 use Rattle.mesh_outside.specs.declared.files.Gained.{Gained}
-use Rattle.mesh_outside.specs.Depot.{DepotSeen}
+use Rattle.mesh_outside.specs.Depot.{DepotSeen, AfterReads, AfterWrites}
 use Rattle.mesh_outside.specs.Fault.{Counts, Rose}
 use Rattle.mesh_outside.specs.Gained.{Gains, GainsPrefix}
-use Rattle.mesh_words.specs.Arguments.{Arguments}
+use Rattle.mesh_words.specs.Arguments.{Arguments, Source, from_file, from_seed}
 use Rattle.mesh_words.specs.declared.fault.UsageFault.{UsageFault}
 use Rattle.mesh_words.specs.declared.fault.UsageFault.TheVariants as usage_fault
 use Rattle.mesh_input.specs.declared.fault.InputFault.{InputFault}
@@ -84,7 +84,17 @@ pub record AfterInput (input : List ℕ) (outcome : Outcome) (old new : DepotSee
   pub write_cause : outcome ≡ WriteFault → Rose old.write_faults new.write_faults
   pub exact : IsTrue old.is_exact → CountsCall input outcome old new
 
+-- after a call with this source: no file is read for a seed
+abbrev pub AfterSource : Source → Outcome → DepotSeen → DepotSeen → Type 0
+AfterSource (from_file name) outcome old new = AfterInput name outcome old new
+AfterSource (from_seed seed large) outcome old new = AfterWrites (outcome ≡ WriteFault) old new × (outcome ≢ ReadFault)
+
+-- after the source of a call was taken: a file was read, or nothing was called
+abbrev pub AfterTaking : Source → Type 0 → DepotSeen → DepotSeen → Type 0
+AfterTaking (from_file name) failed old new = AfterReads name failed old new
+AfterTaking (from_seed seed large) failed old new = (new ≡ old) × (failed → ⊥)
+
 -- after a call; words that are refused leave the depot as it was
 abbrev pub AfterCall : Result Arguments UsageFault → Outcome → DepotSeen → DepotSeen → Type 0
-AfterCall (Ok arguments) outcome old new = AfterInput arguments.input outcome old new
+AfterCall (Ok arguments) outcome old new = AfterSource arguments.source outcome old new
 AfterCall (Err fault) outcome old new = new ≡ old

@@ -6,7 +6,11 @@ use Rattle.mesh_outside.specs.Depot.{DepotSeen}
 use Rattle.mesh_outside.specs.Fault.{Counts, Rose}
 use Rattle.mesh_outside.specs.Files.{input_of}
 use Rattle.mesh_outside.specs.Sink.{SinkSeen}
-use Rattle.mesh_words.specs.Arguments.{Arguments, arguments_of}
+use Rattle.input_file.specs.Blocks.{Blocks}
+use Rattle.deck_generator.specs.Generated.{generated}
+use Rattle.mesh_input.specs.declared.fault.Refusal.{Refusal}
+use Rattle.mesh_input.specs.Input.{deck_read}
+use Rattle.mesh_words.specs.Arguments.{Arguments, Source, from_file, from_seed, arguments_of}
 use Rattle.mesh_words.specs.declared.fault.UsageFault.{UsageFault}
 use Rattle.mesh_outcome.specs.declared.outcome.Outcome.{Outcome}
 use Rattle.mesh_outcome.specs.declared.status.Status.{Status}
@@ -24,9 +28,14 @@ pub record Outside : Type 0 where
 abbrev pub outside : DepotSeen → SinkSeen → Outside
 outside depot sink = record { depot = depot; sink = sink }
 
+-- the count of read faults of a file rose, where the source is one
+abbrev pub SourceRose : Source → DepotSeen → DepotSeen → Type 0
+SourceRose (from_file name) before after = Rose (before.read_faults name) (after.read_faults name)
+SourceRose (from_seed seed large) before after = ⊥
+
 -- the count of read faults of the file that the words name rose
 abbrev pub NamedRose : Result Arguments UsageFault → DepotSeen → DepotSeen → Type 0
-NamedRose (Ok arguments) before after = Rose (before.read_faults arguments.input) (after.read_faults arguments.input)
+NamedRose (Ok arguments) before after = SourceRose arguments.source before after
 NamedRose (Err fault) before after = ⊥
 
 -- each status of a fault comes only where the count of such faults rose in the call
@@ -59,22 +68,33 @@ status_for (refused refusal) = status.Refused
 abbrev pub IsOrNoMemory : Status → Status → Type 0
 IsOrNoMemory wanted answered = (answered ≡ wanted) ⊎ (answered ≡ status.NoMemory)
 
--- no count of faults rose: neither that of reads of this file, nor that of writes, nor that of prints
-pub record NoneRose (input : List ℕ) (before after : Outside) : Type 0 where
-  pub read : Rose (before.depot.read_faults input) (after.depot.read_faults input) → ⊥
+-- no count of faults rose: neither that of reads of the source, nor that of writes, nor that of prints
+pub record NoneRose (source : Source) (before after : Outside) : Type 0 where
+  pub read : SourceRose source before.depot after.depot → ⊥
   pub write : Rose before.depot.write_faults after.depot.write_faults → ⊥
   pub print : Rose before.sink.faults after.sink.faults → ⊥
 
--- where no count of faults rose, arguments and a file that is told end with the status of what they come to
-abbrev pub CompletesFile : Arguments → Option (List File) → Status → Outside → Outside → Type 0
-CompletesFile arguments None answered before after = Unit {0}
-CompletesFile arguments (Some files) answered before after =
-    (bytes : List ℕ) → input_of files arguments.input ≡ Some bytes → NoneRose arguments.input before after
-    → IsOrNoMemory (status_for (verdict arguments bytes)) answered
+-- where no count of faults rose, arguments end with the status of what they come to with a deck
+abbrev pub CompletesWith : Arguments → Result Blocks Refusal → Status → Outside → Outside → Type 0
+CompletesWith arguments deck answered before after =
+    NoneRose arguments.source before after → IsOrNoMemory (status_for (verdict arguments deck)) answered
+
+-- so do those of a file that is told
+abbrev pub CompletesFile : Arguments → List ℕ → Option (List File) → Status → Outside → Outside → Type 0
+CompletesFile arguments name None answered before after = Unit {0}
+CompletesFile arguments name (Some files) answered before after =
+    (bytes : List ℕ) → input_of files name ≡ Some bytes → CompletesWith arguments (deck_read bytes) answered before after
+
+-- and those of a seed
+abbrev pub CompletesSource : Source → Arguments → Option (List File) → Status → Outside → Outside → Type 0
+CompletesSource (from_file name) arguments inputs answered before after = CompletesFile arguments name inputs answered before after
+CompletesSource (from_seed seed large) arguments inputs answered before after =
+    CompletesWith arguments (Ok (generated seed large)) answered before after
 
 -- words that are refused end with the status of usage where the count of failed prints did not rise
 abbrev pub Completes : Result Arguments UsageFault → Status → Outside → Outside → Type 0
-Completes (Ok arguments) answered before after = CompletesFile arguments before.depot.inputs answered before after
+Completes (Ok arguments) answered before after =
+    CompletesSource arguments.source arguments before.depot.inputs answered before after
 Completes (Err fault) answered before after =
     (Rose before.sink.faults after.sink.faults → ⊥) → IsOrNoMemory status.Usage answered
 

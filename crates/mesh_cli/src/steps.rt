@@ -1,21 +1,21 @@
-ghost use Rattle.std.specs.Prelude.{◌≡◌, ◌≢◌, true, map, string_bytes};
+ghost use Rattle.std.specs.Prelude.{◌≡◌, ◌≢◌, true, Err, map, string_bytes};
 ghost use Rattle.std.specs.Option.{ForSome};
 ghost use Rattle.problem_set.specs.SettingsOf.{settings_of};
 ghost use Rattle.dense_model.specs.OfProblem.{is_built};
 ghost use Rattle.mesh_outside.specs.Depot.{AfterWrites};
 ghost use Rattle.mesh_outside.specs.Gained.{IsClosed};
 ghost use Rattle.mesh_words.specs.Arguments.{arguments_of};
-ghost use Rattle.mesh_words.specs.Seen.{seen_arguments};
+ghost use Rattle.mesh_words.specs.Seen.{HasSeed, seen_source, seen_arguments};
 ghost use Rattle.mesh_input.specs.Input.{seen_input};
-ghost use Rattle.mesh_cli.specs.Steps.{AfterCall, AfterInput, EndsAccepted, EndsBy, EndsWith, RunEnds, outcome_of_fault, outcome_of_usage};
-ghost use Rattle.mesh_cli.specs.Verdicts.{verdict_on};
+ghost use Rattle.mesh_cli.specs.Steps.{AfterCall, AfterSource, AfterTaking, EndsAccepted, EndsBy, EndsWith, RunEnds, outcome_of_fault, outcome_of_usage};
+ghost use Rattle.mesh_cli.specs.Verdicts.{AnswersSource, verdict_on};
 
 use dense_model::is_built;
 use mesh_driver::{DriveFault, drive};
-use mesh_input::{Input, InputFault, Refusal, accept_file};
+use mesh_input::{Input, InputFault, Refusal, accept_file, accept_seed};
 use mesh_outcome::Outcome;
 use mesh_outside::Depot;
-use mesh_words::{Arguments, UsageFault, read_arguments};
+use mesh_words::{Arguments, Source, UsageFault, read_arguments};
 use problem_set::Problem;
 use std::alloc::Global;
 
@@ -47,18 +47,31 @@ fn outcome_of_arguments<'a, D: Depot>(
     arguments: &Arguments<'a>,
     depot: &mut D,
 ) -> Outcome
-    requires { ForSome (D.seen depot.old).written IsClosed }
+    requires closed { ForSome (D.seen depot.old).written IsClosed }
+    requires seed { HasSeed arguments.now.source }
     ensures ends { EndsAccepted (seen_arguments arguments.now) result (D.seen depot.old) (D.seen depot.new) }
-    ensures after { AfterInput arguments.now.input.now result (D.seen depot.old) (D.seen depot.new) }
+    ensures after { AfterSource (seen_source arguments.now.source) result (D.seen depot.old) (D.seen depot.new) }
 {
-    match accept_file(
-        alloc,
-        depot,
-        arguments.input,
-        arguments.overrides.as_slice(),
-    ) {
+    match accept_source(alloc, arguments, depot) {
         Ok(input) => outcome_of_input(alloc, input, arguments.prints_deck, arguments.prefix, depot),
         Err(fault) => outcome_of_fault(fault),
+    }
+}
+
+// The input that the source of accepted words gives, with their overrides. Nothing is written.
+fn accept_source<'a, D: Depot>(
+    alloc: Global,
+    arguments: &Arguments<'a>,
+    depot: &mut D,
+) -> Result<Input, InputFault>
+    requires { HasSeed arguments.now.source }
+    ensures answer { AnswersSource (D.seen depot.old).inputs (seen_arguments arguments.now) result }
+    ensures after { AfterTaking (seen_source arguments.now.source) (result ≡ Err InputFault.ReadFault) (D.seen depot.old) (D.seen depot.new) }
+{
+    let overrides = arguments.overrides.as_slice();
+    match arguments.source {
+        Source::File(name) => accept_file(alloc, depot, name, overrides),
+        Source::Seed { seed, large } => accept_seed(alloc, seed, large, overrides),
     }
 }
 

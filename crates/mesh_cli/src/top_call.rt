@@ -8,8 +8,9 @@ use mesh_outcome::{Status, report};
 use mesh_outside::{Depot, Sink};
 use std::alloc::Global;
 
-/// Reads the words after the program's name, and the file that they name with its overrides; prints
-/// the deck, or runs the problem, writes its files and prints in one line how that ended.
+/// Reads the words after the program's name, takes the file that they name or makes the deck of their
+/// seed, with the overrides; prints the deck, or runs the problem, writes its files and prints in one
+/// line how that ended.
 pub fn mesh_plain<D: Depot, K: Sink>(
     alloc: Global,
     words: &[String],

@@ -53,9 +53,13 @@ problem_read d = or_problem_fault (problem d)
 abbrev pub input_of_deck : Blocks → Result SeenInput Refusal
 input_of_deck d = and_then (problem_read d) (λ p. Ok (record { deck = d; problem = p }))
 
--- the input that bytes and overrides give; overrides are counted from 1
+-- the input that a deck and overrides give; overrides are counted from 1
+abbrev pub input_with : Blocks → List Text → Result SeenInput Refusal
+input_with d overrides = and_then (overridden_by 1 d overrides) input_of_deck
+
+-- the input that bytes and overrides give
 abbrev pub accepted_input : List ℕ → List Text → Result SeenInput Refusal
-accepted_input bytes overrides = and_then (deck_read bytes) (λ d. and_then (overridden_by 1 d overrides) input_of_deck)
+accepted_input bytes overrides = and_then (deck_read bytes) (λ d. input_with d overrides)
 
 -- what is answered, seen by `view`, is what the definition gives; want of memory alone is free
 abbrev pub Answers : {T V : Type 0} → (T → V) → Result T InputFault → Result V Refusal → Type 0

@@ -1,10 +1,12 @@
-ghost use Rattle.std.specs.Prelude.{map};
+ghost use Rattle.std.specs.Prelude.{◌<◌, ◌^◌, map};
+ghost use Rattle.deck_generator.specs.Generated.{generated};
 ghost use Rattle.input_file.specs.Overrides.{overridden};
 ghost use Rattle.problem_set.specs.SettingsOf.{settings_of};
-ghost use Rattle.mesh_input.specs.Input.{accepted_input, deck_read, or_override_fault, overridden_by, problem_read};
+ghost use Rattle.mesh_input.specs.Input.{accepted_input, input_with, deck_read, or_override_fault, overridden_by, problem_read};
 ghost use Rattle.mesh_input.specs.Input.{Answers, seen_input};
 
 use crate::fault::{InputFault, stop_of_deck, stop_of_override, stop_of_problem};
+use deck_generator::generate;
 use input_file::{Deck, parse};
 use problem_set::{Problem, read_problem};
 use std::alloc::Global;
@@ -21,7 +23,31 @@ pub struct Input {
 pub fn accept_bytes(alloc: Global, bytes: &[u8], overrides: &[&str]) -> Result<Input, InputFault>
     ensures { Answers seen_input result (accepted_input bytes.now (map (λ t. t.now) overrides.now)) }
 {
-    let mut deck = read_deck(alloc, bytes)?;
+    let deck = read_deck(alloc, bytes)?;
+    accept_deck(alloc, deck, overrides)
+}
+
+/// The input that the deck of a seed and the overrides give: the large one, or the small one.
+pub fn accept_seed(
+    alloc: Global,
+    seed: u32,
+    large: bool,
+    overrides: &[&str],
+) -> Result<Input, InputFault>
+    requires { seed < 2 ^ 31 }
+    ensures { Answers seen_input result (input_with (generated seed large) (map (λ t. t.now) overrides.now)) }
+{
+    match generate(alloc, seed, large) {
+        Ok(deck) => accept_deck(alloc, deck, overrides),
+        Err(_) => Err(InputFault::NoMemory),
+    }
+}
+
+// The input that a deck and the overrides give.
+fn accept_deck(alloc: Global, deck: Deck, overrides: &[&str]) -> Result<Input, InputFault>
+    ensures { Answers seen_input result (input_with deck (map (λ t. t.now) overrides.now)) }
+{
+    let mut deck = deck;
     apply_all(&mut deck, overrides)?;
     let problem = problem_of(alloc, &deck)?;
     Ok(Input { deck, problem })

@@ -1,5 +1,5 @@
 -- The options and flags of a command line, not yet tested, and the first rule that refuses them.
-use Rattle.std.specs.Prelude.{◌&&◌, ◌||◌, Bool, true, not, List, [], Option, Some, None, is_none, is_some, codes, unwrap_or, if◌then◌else◌}
+use Rattle.std.specs.Prelude.{◌&&◌, Bool, true, not, List, [], Option, Some, None, is_none, is_some, codes, unwrap_or, if◌then◌else◌}
 use Rattle.std.specs.Option.{option_map_or}
 use Rattle.clap.specs.Words.{Row, Text, first_of, all_of}
 use Rattle.mesh_words.specs.Command.{is_set}
@@ -43,7 +43,7 @@ first_bad_value raw =
     if not (passes is_workers raw.workers) then Some Workers
     else (if not (passes is_seed raw.seed) then Some Seed
     else (if not (passes is_prefix raw.prefix) then Some Prefix
-    else (if raw.events || is_some raw.seed then Some NotBuilt
+    else (if raw.events then Some NotBuilt
     else None)))
 
 -- the first rule that refuses the arguments: the rules on the inputs come before those on the values

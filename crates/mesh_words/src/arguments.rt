@@ -1,13 +1,13 @@
-ghost use Rattle.std.specs.Prelude.{◌≡◌, ◌≢◌, ◌≤◌, ◌⊎◌, Err, Some, true, map, option_map, unwrap_or, codes, IfOk, IfErr, IfSome};
+ghost use Rattle.std.specs.Prelude.{◌≡◌, ◌≢◌, ◌≤◌, ◌⊎◌, Err, Some, true, map, option_map, unwrap_or, codes, IfOk, IfErr, IfSome, ◌<◌, ◌^◌};
 ghost use Rattle.std.specs.Option.{option_map_or};
 ghost use Rattle.std.specs.String.{string_bytes};
 ghost use Rattle.std.specs.Str.Parse.{digits_value};
 ghost use Rattle.clap.specs.Words.{rows_of, found_of, kind_of, takes};
 ghost use Rattle.mesh_words.specs.Command.{command};
-ghost use Rattle.mesh_words.specs.Numbers.{is_workers};
+ghost use Rattle.mesh_words.specs.Numbers.{is_seed, is_workers};
 ghost use Rattle.mesh_words.specs.RawArguments.{first_fault, passes, overrides_by, raw_of};
-ghost use Rattle.mesh_words.specs.Arguments.{arguments_of_rows, arguments_with, arguments_of};
-ghost use Rattle.mesh_words.specs.Seen.{Answers, seen_raw, seen_arguments};
+ghost use Rattle.mesh_words.specs.Arguments.{source_of, arguments_of_rows, arguments_with, arguments_of};
+ghost use Rattle.mesh_words.specs.Seen.{Answers, HasSeed, seen_raw, seen_source, seen_arguments};
 
 use crate::command::command;
 use crate::fault::UsageFault;
@@ -17,11 +17,20 @@ use clap::error::ErrorKind;
 use clap::{ArgMatches, Error};
 use std::alloc::Global;
 
+/// Where the deck comes from.
+#[derive(Clone, Copy, Debug)]
+pub enum Source<'a> {
+    /// The file of this name.
+    File(&'a str),
+    /// It is made of a seed below 2^31, the large one or the small one.
+    Seed { seed: u32, large: bool },
+}
+
 /// The arguments of a call: what the words of its command line say.
 #[derive(Drop)]
 pub struct Arguments<'a> {
-    /// The name of the input file.
-    pub input: &'a str,
+    /// Where the deck comes from.
+    pub source: Source<'a>,
     /// The prefix of the names of the files.
     pub prefix: &'a str,
     /// The number of workers, from 1 to 64.
@@ -39,6 +48,7 @@ pub fn read_arguments<'a>(alloc: Global, words: &'a [String]) -> Result<Argument
     ensures answer { Answers seen_arguments result (arguments_of (map string_bytes words.now)) }
     ensures least_workers { IfOk result (λ w. 1 ≤ w.workers) }
     ensures most_workers { IfOk result (λ w. w.workers ≤ 64) }
+    ensures seed { IfOk result (λ w. HasSeed w.source) }
     ensures taken { takes command (map string_bytes words.now) ≡ true → result ≢ Err UsageFault.NotTheCommand }
 {
     let command = command(alloc)?;
@@ -61,6 +71,7 @@ fn accept<'a>(alloc: Global, matches: &ArgMatches<'a>) -> Result<Arguments<'a>, 
     ensures answer { Answers seen_arguments result (arguments_of_rows (rows_of (found_of matches.now))) }
     ensures least_workers { IfOk result (λ w. 1 ≤ w.workers) }
     ensures most_workers { IfOk result (λ w. w.workers ≤ 64) }
+    ensures seed { IfOk result (λ w. HasSeed w.source) }
     ensures taken { result ≢ Err UsageFault.NotTheCommand }
     ensures rule { IfSome (first_fault (raw_of (rows_of (found_of matches.now)))) (λ fault. result ≡ Err fault) }
 {
@@ -76,22 +87,50 @@ fn arguments_with<'a>(
     raw: &RawArguments<'a>,
     matches: &ArgMatches<'a>,
 ) -> Result<Arguments<'a>, UsageFault>
-    requires { passes is_workers (seen_raw raw.now).workers ≡ true }
-    ensures answer { Answers seen_arguments result (arguments_with (seen_raw raw.now) (overrides_by (rows_of (found_of matches.now))) (seen_raw raw.now).input) }
+    requires workers { passes is_workers (seen_raw raw.now).workers ≡ true }
+    requires seed { passes is_seed (seen_raw raw.now).seed ≡ true }
+    ensures answer { Answers seen_arguments result (arguments_with (seen_raw raw.now) (overrides_by (rows_of (found_of matches.now))) (source_of (seen_raw raw.now))) }
     ensures least_workers { IfOk result (λ w. 1 ≤ w.workers) }
     ensures most_workers { IfOk result (λ w. w.workers ≤ 64) }
+    ensures seed { IfOk result (λ w. HasSeed w.source) }
     ensures taken { result ≢ Err UsageFault.NotTheCommand }
 {
-    match raw.input {
+    match source_of(raw) {
         None => Err(UsageFault::NoInput),
-        Some(input) => Ok(Arguments {
-            input,
+        Some(source) => Ok(Arguments {
+            source,
             prefix: prefix_of(raw.prefix),
             workers: workers_of(raw.workers),
             prints_deck: raw.prints_deck,
             overrides: overrides_of(alloc, matches)?,
         }),
     }
+}
+
+/// Where the deck comes from, if the words say so.
+fn source_of<'a>(raw: &RawArguments<'a>) -> Option<Source<'a>>
+    requires { passes is_seed (seen_raw raw.now).seed ≡ true }
+    ensures value { option_map seen_source result ≡ source_of (seen_raw raw.now) }
+    ensures seed { IfSome result HasSeed }
+{
+    match raw.input {
+        Some(name) => Some(Source::File(name)),
+        None => match raw.seed {
+            Some(text) => Some(Source::Seed {
+                seed: seed_of(text),
+                large: raw.large,
+            }),
+            None => None,
+        },
+    }
+}
+
+fn seed_of(text: &str) -> u32
+    requires { is_seed text.now ≡ true }
+    ensures value { result ≡ digits_value 10 text.now }
+    ensures most { result < 2 ^ 31 }
+{
+    number_of(text).unwrap_or(0) as u32
 }
 
 fn prefix_of<'a>(prefix: Option<&'a str>) -> &'a str

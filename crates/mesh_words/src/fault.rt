@@ -20,7 +20,7 @@ pub enum UsageFault {
     Seed,
     /// The value of `-d` is empty or longer than 200 bytes.
     Prefix,
-    /// `-t` or `-g` is given, which this program does not carry out yet.
+    /// `-t` is given, which this program does not carry out yet.
     NotBuilt,
     /// There was not enough memory.
     NoMemory,

@@ -13,5 +13,5 @@ mod raw_arguments;
 #[cfg(test)]
 mod tests;
 
-pub use arguments::{Arguments, read_arguments};
+pub use arguments::{Arguments, Source, read_arguments};
 pub use fault::UsageFault;

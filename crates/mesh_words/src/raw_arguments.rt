@@ -75,7 +75,7 @@ fn first_bad_value(raw: &RawArguments<'_>) -> Option<UsageFault>
         Some(UsageFault::Seed)
     } else if !is_none_or_prefix(raw.prefix) {
         Some(UsageFault::Prefix)
-    } else if raw.events || raw.seed.is_some() {
+    } else if raw.events {
         Some(UsageFault::NotBuilt)
     } else {
         None

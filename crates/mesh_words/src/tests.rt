@@ -1,5 +1,5 @@
 //! What no contract says: that the calls succeed, and what clap makes of words that are written out.
-use crate::{UsageFault, Words, read_arguments};
+use crate::{Arguments, Source, UsageFault, read_arguments};
 use std::alloc::{AllocError, Global};
 use std::test::Fail;
 
@@ -17,10 +17,14 @@ fn fault_of(alloc: Global, line: &str) -> Result<Option<UsageFault>, AllocError>
 }
 
 fn says(words: &Arguments<'_>, input: &str, prefix: &str, workers: u32, prints_deck: bool) -> bool {
-    words.input == input
+    matches!(&words.source, Source::File(name) if *name == input)
         && words.prefix == prefix
         && words.workers == workers
         && words.prints_deck == prints_deck
+}
+
+fn is_seed(words: &Arguments<'_>, number: u32, form: bool) -> bool {
+    matches!(&words.source, Source::Seed { seed, large } if *seed == number && *large == form)
 }
 
 #[test]
@@ -43,7 +47,6 @@ fn the_first_rule_refuses(rt: HostRuntime) -> Result<(), Fail> {
         ("-i f -w 1x", UsageFault::Workers),
         ("-g 2147483648", UsageFault::Seed),
         ("-i f -d=", UsageFault::Prefix),
-        ("-g 2147483647 -l", UsageFault::NotBuilt),
         ("-i f -t", UsageFault::NotBuilt),
     ];
     for (line, fault) in rows {
@@ -66,6 +69,23 @@ fn words_say_what_they_give(rt: HostRuntime) -> Result<(), Fail> {
         let list = words_in(rt.alloc(), line)?;
         match read_arguments(rt.alloc(), list.as_slice()) {
             Ok(words) => assert!(rt; says(&words, input, prefix, workers, prints_deck)),
+            Err(_) => assert!(rt; false),
+        }
+    }
+    Ok(())
+}
+
+#[test]
+fn a_seed_stands_for_a_file(rt: HostRuntime) -> Result<(), Fail> {
+    let rows = [
+        ("-g 7", 7, false),
+        ("-l -g 0000000012", 12, true),
+        ("-g 2147483647 -ln", 2_147_483_647, true),
+    ];
+    for (line, number, form) in rows {
+        let list = words_in(rt.alloc(), line)?;
+        match read_arguments(rt.alloc(), list.as_slice()) {
+            Ok(words) => assert!(rt; is_seed(&words, number, form)),
             Err(_) => assert!(rt; false),
         }
     }

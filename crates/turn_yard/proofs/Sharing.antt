@@ -16,7 +16,7 @@ pub badge_sync : (V : RattleType) → IsSync (Badge.the_row V)
 badge_sync V = record { shared = λ d b o κ q. part_keyless (Badge.the_row V) (badge.the_send V) q d b o }
 
 pub inside_sync : (T : RattleType) (g : Ghosts T.Denot) → IsSend T → IsSync (inside.the_row T g)
-inside_sync T g s = recorded_sync _ _ _ (inside.the_type T g).to_one (struct_sync (shape (inside.the_type T g)) (search (sendable, table.the_field_sync, option.the_send, global.the_send, global.the_sync, allocator.the_frees) depth 20, (badge_sync _, (search sendable, tt))))
+inside_sync T g s = recorded_sync _ _ _ (inside.the_type T g).to_one (struct_sync (shape (inside.the_type T g)) (search (sendable, table.the_field_sync, option.the_send, global.the_send, global.the_sync, allocator.the_frees) depth 20, (badge_sync _, (search sendable, (search sendable, tt)))))
 
 pub yard_sync : (T : RattleType) (g : Ghosts T.Denot) → IsSend T → IsSync (the_row T g)
 yard_sync T g s = view_sync _ _ _ _ _ (inside_sync T g s)

@@ -33,7 +33,7 @@ abbrev pub yard_state : TableId → List View → ℕ → YardState
 yard_state id views made = record { id = id; origin = (own_view views).known.origin; parts = length (own_view views).known.noted; made = made }
 
 -- the yard's own seat is the first one, and no seat has returned
-pub record IsYard (id seat_id : TableId) (number : ℕ) (views : List View) (made : ℕ) : Type 0 where
+pub record IsYard (id seat_id : TableId) (number : ℕ) (views : List View) (made parts : ℕ) : Type 0 where
   pub table : seat_id ≡ id
   pub first : number ≡ 0
   pub one : views ≡ own_view views ∷ []
@@ -41,6 +41,7 @@ pub record IsYard (id seat_id : TableId) (number : ℕ) (views : List View) (mad
   pub noted : (own_view views).known.noted ≡ replicate (length (own_view views).known.noted) 0
   pub words : id.words ≡ suc (length (own_view views).known.noted)
   pub slots : id.slots ≡ 1
+  pub parts_is : length (own_view views).known.noted ≡ parts
   pub made_is : (own_view views).made ≡ made
   pub returned : (own_view views).returned ≡ []
 

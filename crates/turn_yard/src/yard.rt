@@ -22,6 +22,7 @@ pub struct Yard<T: Entries> {
     table: Table<Option<T>, View, Snapshot<T>, OneHistory, Global>,
     own: Badge<View>,
     made: u32,
+    parts: u32,
 }
 
 impl<T: Entries> Model for Yard<T> {
@@ -33,7 +34,7 @@ impl<T: Entries> Model for Yard<T> {
 
     ghost view = { λ y. yard_state y.table.shared.table_id y.own.views y.made };
 
-    ghost invariant = { λ y. IsYard y.table.shared.table_id y.own.table_id y.own.id y.own.views y.made };
+    ghost invariant = { λ y. IsYard y.table.shared.table_id y.own.table_id y.own.id y.own.views y.made y.parts };
 }
 
 impl<T: Entries> Yard<T> {
@@ -57,6 +58,7 @@ impl<T: Entries> Yard<T> {
                 table,
                 own: own.into_badge(),
                 made: 0,
+                parts,
             }),
             Err(_) => Err(NoMemory),
         }
@@ -75,6 +77,13 @@ impl<T: Entries> Yard<T> {
         let number = self.made;
         self.made += 1;
         YardSeat { seat, number }
+    }
+
+    /// How many marks the value has.
+    pub fn parts(&self) -> u32
+        ensures { result ≡ self.now.parts }
+    {
+        self.parts
     }
 
     /// Waits for the turn, and takes it with the value. The value's history begins with all that the seat
@@ -126,6 +135,7 @@ impl<T: Entries> Yard<T> {
             table,
             own,
             made: _,
+            parts: _,
         } = self;
         let own = turns::returned(&table.shared, own.into_seat(), seats);
         turns::last(table, own)

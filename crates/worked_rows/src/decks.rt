@@ -84,3 +84,6 @@ pub fn many_static_boxes(alloc: Global, count: u32) -> Result<String, AllocError
     }
     Ok(text)
 }
+
+/// The small deck that is made of the seed 7.
+pub const SEED_SEVEN: &str = "<parthenon/mesh>\nnx1 = 32\nnx2 = 32\nrefinement = adaptive\nnumlevel = 2\nderefine_count = 2\npack_size = 3\nix1_bc = periodic\nox1_bc = periodic\nix2_bc = reflecting\nox2_bc = reflecting\n<parthenon/meshblock>\nnx1 = 8\nnx2 = 8\n<parthenon/time>\nnlim = 12\n<whole>\ndenominator = 64\nnstages = 2\nrefine_every = 2\ndump_every = 4\n<field/s>\nflags = Cell,Independent,FillGhost,WithFluxes,Sparse\nids = 0,1,2,3,4,5,6,7\nv1 = -1\nv2 = 1\nk = 1\n<box/0>\nfield = s_0\nlo1 = 18\nhi1 = 19\nlo2 = 17\nhi2 = 18\namount = 1000\n<box/1>\nfield = s_1\nlo1 = 3\nhi1 = 4\nlo2 = 1\nhi2 = 2\namount = 1001\n<box/2>\nfield = s_2\nlo1 = 1\nhi1 = 2\nlo2 = 2\nhi2 = 3\namount = 1002\n<box/3>\nfield = s_3\nlo1 = 13\nhi1 = 14\nlo2 = 3\nhi2 = 4\namount = 1003\n<box/4>\nfield = s_4\nlo1 = 3\nhi1 = 4\nlo2 = 27\nhi2 = 28\namount = 1004\n<box/5>\nfield = s_5\nlo1 = 0\nhi1 = 1\nlo2 = 1\nhi2 = 2\namount = 1005\n<box/6>\nfield = s_6\nlo1 = 16\nhi1 = 17\nlo2 = 23\nhi2 = 24\namount = 1006\n<box/7>\nfield = s_7\nlo1 = 2\nhi1 = 3\nlo2 = 17\nhi2 = 18\namount = 1007\n<reaction/r>\nfrom = s_0\nto = s_1\nnum = 1\nden = 10\n<criterion/c>\nfield = s_0\nmethod = peak\nrefine_tol = 500\nderefine_tol = 50\n";

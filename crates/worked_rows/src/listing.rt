@@ -1,7 +1,11 @@
 use crate::calls::call;
-use crate::decks::{ONE_BLOCK, TWO_DYES};
+use crate::decks::{ONE_BLOCK, SEED_SEVEN, TWO_DYES};
 use mesh_cli::Status;
 use std::test::Fail as TestFail;
+
+/// The end of the large deck that is made of the seed 7: its last box, and what follows.
+const LAST_OF_SEED_SEVEN: &str =
+    "<box/255>\nfield = s_255\nlo1 = 1120\nhi1 = 1121\nlo2 = 1525\nhi2 = 1526\namount = 1255\n<reaction/r>\nfrom = s_0\nto = s_1\nnum = 1\nden = 10\n<criterion/c>\nfield = s_0\nmethod = peak\nrefine_tol = 500\nderefine_tol = 50\n";
 
 // Blocks and keys keep their places, later values take the places of earlier ones, and overrides
 // add what is new at the end.
@@ -42,5 +46,34 @@ fn what_is_accepted_is_listed(rt: HostRuntime) -> Result<(), TestFail> {
         refused.out.printed(),
         b"refused: value parthenon/time nlim\n".as_slice()
     );
+    Ok(())
+}
+
+// A deck that is made of a seed is listed like one of a file, with its overrides; its file is not read.
+#[test]
+fn the_deck_of_a_seed_is_listed(rt: HostRuntime) -> Result<(), TestFail> {
+    let alloc = rt.alloc();
+    let small = call(alloc, &["-n", "-g", "7"], b"<")?;
+    assert_eq!(rt; small.status, Status::Done);
+    assert_eq!(rt; small.out.printed(), SEED_SEVEN.as_bytes());
+    let large = call(alloc, &["-g", "7", "-ln"], b"<")?;
+    assert_eq!(rt; large.out.printed().len(), 21636);
+    assert!(rt; large.out.printed().ends_with(LAST_OF_SEED_SEVEN.as_bytes()));
+    let words = ["-n", "-g", "7", "box/0/amount=-1"];
+    let refused = call(alloc, &words, b"<")?;
+    assert_eq!(rt; refused.out.printed(), b"refused: value box/0 amount\n".as_slice());
+    Ok(())
+}
+
+// The decks of some seeds, small and large, are accepted; they are not run yet.
+#[test]
+fn decks_of_seeds_are_accepted(rt: HostRuntime) -> Result<(), TestFail> {
+    let alloc = rt.alloc();
+    for seed in ["0", "1", "7", "1103515245", "2147483647"] {
+        let small = call(alloc, &["-g", seed], b"<")?;
+        assert_eq!(rt; small.out.printed(), b"refused: not built\n".as_slice());
+        let large = call(alloc, &["-l", "-g", seed], b"<")?;
+        assert_eq!(rt; large.out.printed(), b"refused: not built\n".as_slice());
+    }
     Ok(())
 }

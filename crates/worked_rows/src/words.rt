@@ -8,7 +8,7 @@ use std::test::Fail as TestFail;
 fn refused_words_have_their_lines(rt: HostRuntime) -> Result<(), TestFail> {
     let alloc = rt.alloc();
     let none: [&str; 0] = [];
-    let rows: [(&[&str], &str); 19] = [
+    let rows: [(&[&str], &str); 18] = [
         (&none, "usage: no input\n"),
         (&["-n"], "usage: no input\n"),
         (&["-i"], "usage: words\n"),
@@ -26,7 +26,6 @@ fn refused_words_have_their_lines(rt: HostRuntime) -> Result<(), TestFail> {
         (&["-g", "2147483648"], "usage: -g\n"),
         (&["-i", "deck", "-d="], "usage: -d\n"),
         (&["-i", "deck", "-t"], "usage: not built\n"),
-        (&["-g", "7", "-l"], "usage: not built\n"),
         (&["-w", "0", "-d=", "-i", "f"], "usage: -w\n"),
     ];
     for (words, line) in rows {

@@ -1,0 +1,11 @@
+pub mod Balances
+pub mod Clock
+pub mod Corners
+pub mod DenseRuns
+pub mod Ends
+pub mod EpochLaws
+pub mod Rows
+pub mod Runs
+pub mod Stages
+pub mod Supplies
+pub mod Tail

@@ -1,0 +1,10 @@
+pub mod Agreement
+pub mod Balance
+pub mod Corner
+pub mod Dense
+pub mod Epochs
+pub mod Kernels
+pub mod Laws
+pub mod Masked
+pub mod Row
+pub mod Sparse
