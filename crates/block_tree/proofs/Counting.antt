@@ -27,18 +27,19 @@ many more f g each a (suc n) =
     sum : (l i more n a b c d : ℕ) → l ≡ a + c → i ≡ b + d → a ≡ 1 + more * b → c ≡ n + more * d → l ≡ suc n + more * i
     sum l i more n a b c d p q h r = subst (λ v. l ≡ suc n + more * v) (sym q) (omega arith)
 
+count_by : (dims : ℕ) → 1 ≤ parts dims → (k : ℕ) (test : Loc → Bool) (l : Loc) → ((j : ℕ) → Count (parts dims - 1) (leaves_below k dims test (child dims l j)) (inner_below k dims test (child dims l j))) → (b : Bool) →
+    Count (parts dims - 1) (pieces b (parts dims) (λ j. leaves_below k dims test (child dims l j)) (l ∷ [])) (cond b (l ∷ []) [] ++ pieces b (parts dims) (λ j. inner_below k dims test (child dims l j)) [])
+count_by dims some k test l again true =
+    let m = many (parts dims - 1) (λ j. leaves_below k dims test (child dims l j)) (λ j. inner_below k dims test (child dims l j)) again 0 (parts dims) in
+    close (parts dims) (length (flat_map (λ j. leaves_below k dims test (child dims l j)) (range_with_len 0 (parts dims)))) (length (flat_map (λ j. inner_below k dims test (child dims l j)) (range_with_len 0 (parts dims)))) some m
+  where
+    close : (p a b : ℕ) → 1 ≤ p → a ≡ p + (p - 1) * b → a ≡ 1 + (p - 1) * (suc b)
+    close p a b some h = let e : (p - 1) * (suc b) ≡ (p - 1) * b + (p - 1) = omega arith in omega arith
+count_by dims some k test l again false = omega arith
+
 below_count : (dims : ℕ) → 1 ≤ parts dims → (k : ℕ) (test : Loc → Bool) (l : Loc) → Count (parts dims - 1) (leaves_below k dims test l) (inner_below k dims test l)
 below_count dims some zero test l = omega arith
-below_count dims some (suc k) test l = by (test l)
-  where
-    by : (b : Bool) → Count (parts dims - 1) (pieces b (parts dims) (λ j. leaves_below k dims test (child dims l j)) (l ∷ [])) (cond b (l ∷ []) [] ++ pieces b (parts dims) (λ j. inner_below k dims test (child dims l j)) [])
-    by true =
-        let m = many (parts dims - 1) (λ j. leaves_below k dims test (child dims l j)) (λ j. inner_below k dims test (child dims l j)) (λ j. below_count dims some k test (child dims l j)) 0 (parts dims) in
-        close (parts dims) (length (flat_map (λ j. leaves_below k dims test (child dims l j)) (range_with_len 0 (parts dims)))) (length (flat_map (λ j. inner_below k dims test (child dims l j)) (range_with_len 0 (parts dims)))) some m
-      where
-        close : (p a b : ℕ) → 1 ≤ p → a ≡ p + (p - 1) * b → a ≡ 1 + (p - 1) * (suc b)
-        close p a b some h = let e : (p - 1) * (suc b) ≡ (p - 1) * b + (p - 1) = omega arith in omega arith
-    by false = omega arith
+below_count dims some (suc k) test l = count_by dims some k test l (λ j. below_count dims some k test (child dims l j)) (test l)
 
 listed_count : (dims : ℕ) → 1 ≤ parts dims → (k : ℕ) (test : Loc → Bool) (rs : List Loc) → length (flat_map (leaves_below k dims test) rs) ≡ length rs + (parts dims - 1) * length (flat_map (inner_below k dims test) rs)
 listed_count dims some k test [] = omega arith
@@ -72,25 +73,25 @@ without l (x ∷ xs) = cond (same_loc l x) xs (x ∷ without l xs)
 without_length : (l : Loc) (xs : List Loc) → is_listed xs l ≡ true → length xs ≡ length (without l xs) + 1
 unfolding without
 without_length l [] h = absurd (false≢true h)
-without_length l (x ∷ xs) h = by (same_loc l x) refl
+without_length l (x ∷ xs) h = by (same_loc l x) (λ e. without_length l xs (ap (λ (b : Bool). b || is_listed xs l) (sym e) ∙ h)) refl
   where
-    by : (b : Bool) → same_loc l x ≡ b → suc (length xs) ≡ length (cond b xs (x ∷ without l xs)) + 1
-    by true e = omega arith
-    by false e = let r = without_length l xs (ap (λ (b : Bool). b || is_listed xs l) (sym e) ∙ h) in omega arith
+    by : (b : Bool) → (same_loc l x ≡ false → length xs ≡ length (without l xs) + 1) → same_loc l x ≡ b → suc (length xs) ≡ length (cond b xs (x ∷ without l xs)) + 1
+    by true again e = omega arith
+    by false again e = let r = again e in omega arith
 
 without_listed : (l m : Loc) (xs : List Loc) → same_loc l m ≡ false → is_listed xs m ≡ true → is_listed (without l xs) m ≡ true
 unfolding without
 without_listed l m [] e h = h
-without_listed l m (x ∷ xs) e h = by (same_loc l x) refl
+without_listed l m (x ∷ xs) e h = by (same_loc l x) (λ later. without_listed l m xs e later) refl
   where
-    by : (b : Bool) → same_loc l x ≡ b → is_listed (cond b xs (x ∷ without l xs)) m ≡ true
-    by true f = elim (or_cases (same_loc m x) (is_listed xs m) h) [
+    by : (b : Bool) → (is_listed xs m ≡ true → is_listed (without l xs) m ≡ true) → same_loc l x ≡ b → is_listed (cond b xs (x ∷ without l xs)) m ≡ true
+    by true again f = elim (or_cases (same_loc m x) (is_listed xs m) h) [
       | inl is ↦ absurd (false≢true (sym e ∙ ap (same_loc l) (same_loc-is m x is) ∙ f))
       | inr later ↦ later
     ]
-    by false f = elim (or_cases (same_loc m x) (is_listed xs m) h) [
+    by false again f = elim (or_cases (same_loc m x) (is_listed xs m) h) [
       | inl is ↦ or_left (same_loc m x) (is_listed (without l xs) m) is
-      | inr later ↦ or_right (same_loc m x) (is_listed (without l xs) m) (without_listed l m xs e later)
+      | inr later ↦ or_right (same_loc m x) (is_listed (without l xs) m) (again later)
     ]
 
 apart : (x m : Loc) (xs : List Loc) → AllByRecursion (λ y. same_loc x y ≡ false) xs → is_listed xs m ≡ true → same_loc x m ≡ false

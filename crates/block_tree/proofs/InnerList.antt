@@ -15,13 +15,14 @@ use Rattle.block_tree.proofs.KeyOrder.{any_append_left, any_append_right, any_fl
 use Rattle.block_tree.proofs.LeafList.{Each, each_append, each_flat, each_listed, each_number}
 
 -- what is listed is inner
+inner_by : (dims k : ℕ) (inner : Loc → Bool) (l : Loc) → ((j : ℕ) → Each (λ m. inner m ≡ true) (inner_below k dims inner (child dims l j))) → (b : Bool) → inner l ≡ b →
+    Each (λ m. inner m ≡ true) (cond b (l ∷ []) [] ++ pieces b (parts dims) (λ j. inner_below k dims inner (child dims l j)) [])
+inner_by dims k inner l again true e = (e, each_flat (λ m. inner m ≡ true) (λ _. Unit {0}) (λ j. inner_below k dims inner (child dims l j)) (λ j _. again j) (range_with_len 0 (parts dims)) (each_number (λ _. Unit {0}) (λ _. tt) 0 (parts dims)))
+inner_by dims k inner l again false e = tt
+
 inner_each : (dims k : ℕ) (inner : Loc → Bool) (l : Loc) → Each (λ m. inner m ≡ true) (inner_below k dims inner l)
 inner_each dims zero inner l = tt
-inner_each dims (suc k) inner l = by (inner l) refl
-  where
-    by : (b : Bool) → inner l ≡ b → Each (λ m. inner m ≡ true) (cond b (l ∷ []) [] ++ pieces b (parts dims) (λ j. inner_below k dims inner (child dims l j)) [])
-    by true e = (e, each_flat (λ m. inner m ≡ true) (λ _. Unit {0}) (λ j. inner_below k dims inner (child dims l j)) (λ j _. inner_each dims k inner (child dims l j)) (range_with_len 0 (parts dims)) (each_number (λ _. Unit {0}) (λ _. tt) 0 (parts dims)))
-    by false e = tt
+inner_each dims (suc k) inner l = inner_by dims k inner l (λ j. inner_each dims k inner (child dims l j)) (inner l) refl
 
 each_any : (P : Loc → Type 0) (f : Loc → List Loc) → ((x : Loc) → Each P (f x)) → (xs : List Loc) → Each P (flat_map f xs)
 each_any P f h [] = tt

@@ -17,3 +17,6 @@ pub mod Remaps
 pub mod Reactions
 pub mod StoredCells
 pub mod Drops
+pub mod RemapMeshes
+pub mod Kernels
+pub mod StoppedFiles

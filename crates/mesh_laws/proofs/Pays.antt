@@ -25,7 +25,7 @@ use Rattle.mesh_rules.specs.Mesh.{IsMesh, Mesh, OnLeaf, block_of, cell_lattice, 
 use Rattle.mesh_rules.specs.Look.{look}
 use Rattle.mesh_rules.specs.Fields.{field_at, kind_at, moves_at}
 use Rattle.mesh_rules.specs.Faces.{Pair, cell_across, face_pair, face_pair_by, limited, own_pair, pair_outside, reconstructed, seen_in, seen_next, seen_second, sum_pairs}
-use Rattle.mesh_laws.specs.PayLaws.{IsNoFiner, NothingFromNothing, PaysAtMost, entering, leaving}
+use Rattle.mesh_laws.specs.PayLaws.{IsNoFiner, NothingFromNothing, PaysAtMost, inwards, outwards}
 use Rattle.mesh_laws.proofs.Flips.{flip, flipped_sum, sees_back}
 use Rattle.mesh_laws.proofs.Looks.{children_add_up, look_law, no_node, some_parts}
 use Rattle.mesh_laws.proofs.Portions.{all_shares, portion_by_more, portion_of_more, portion_within, portions_by, portions_over, quotient_grows, rate_grows, sum_filter}
@@ -86,7 +86,7 @@ most_within order q r den h fit = by (order == 2) refl
     by true e = half (fit.second (eqb-true order 2 e))
     by false e = portion_within q r den h fit.once
 
-portion_nothing : (c d : ℕ) → 1 ≤ d → portion 0 c d ≡ 0
+pub portion_nothing : (c d : ℕ) → 1 ≤ d → portion 0 c d ≡ 0
 portion_nothing c d h = let a = portion_within 0 c (c + d) (omega arith) (omega arith) in nothing c d h
   where
     nothing : (c d : ℕ) → 1 ≤ d → 0 * c / d ≡ 0
@@ -105,16 +105,16 @@ speed_up p f axis true low high h = rate_by (has WithFluxes (field_at p f).flags
 speed_up p f axis false low high h = rate_by (has WithFluxes (field_at p f).flags) (downwards (velocity (moves_at p f) axis)) (moves_at p f).k low high h
 
 -- what leaves a cell through its own face at a side is a portion of what its look counts for
-leaving_own : (p : Settings) (m : Mesh) (f : ℕ) (c : Loc) (axis : ℕ) (high : Bool) →
-    leaving high (own_pair p m f c axis high) ≡ portion (reconstructed (moves_at p f).order (seen_next p m f c axis (not high)) (look m f c) (seen_next p m f c axis high)) (speed p f axis high c.level) p.denominator
-leaving_own p m f c axis true = refl
-leaving_own p m f c axis false = refl
+outwards_own : (p : Settings) (m : Mesh) (f : ℕ) (c : Loc) (axis : ℕ) (high : Bool) →
+    outwards high (own_pair p m f c axis high) ≡ portion (reconstructed (moves_at p f).order (seen_next p m f c axis (not high)) (look m f c) (seen_next p m f c axis high)) (speed p f axis high c.level) p.denominator
+outwards_own p m f c axis true = refl
+outwards_own p m f c axis false = refl
 
 -- what enters it there is a portion of what is seen across
-entering_own : (p : Settings) (m : Mesh) (f : ℕ) (c : Loc) (axis : ℕ) (high : Bool) →
-    entering high (own_pair p m f c axis high) ≡ portion (reconstructed (moves_at p f).order (seen_second p m f c axis high) (seen_next p m f c axis high) (look m f c)) (speed p f axis (not high) c.level) p.denominator
-entering_own p m f c axis true = refl
-entering_own p m f c axis false = refl
+inwards_own : (p : Settings) (m : Mesh) (f : ℕ) (c : Loc) (axis : ℕ) (high : Bool) →
+    inwards high (own_pair p m f c axis high) ≡ portion (reconstructed (moves_at p f).order (seen_second p m f c axis high) (seen_next p m f c axis high) (look m f c)) (speed p f axis (not high) c.level) p.denominator
+inwards_own p m f c axis true = refl
+inwards_own p m f c axis false = refl
 
 -- a portion of what a total counts for
 donated : (p : Settings) (order behind here ahead r s : ℕ) → 1 ≤ p.denominator → r ≤ s → portion (reconstructed order behind here ahead) r p.denominator ≤ portion (most order here) s p.denominator
@@ -142,20 +142,20 @@ abbrev limit : Settings → Mesh → ℕ → ℕ → Loc → ℕ → Bool → �
 limit p m f finest c axis high = portion (most (moves_at p f).order (stored m f c)) (speed p f axis high finest) p.denominator
 
 -- through its own face
-own_paid : (p : Settings) (m : Mesh) (f finest : ℕ) (c : Loc) (axis : ℕ) (high : Bool) → Payer p m f finest c → leaving high (own_pair p m f c axis high) ≤ limit p m f finest c axis high
+own_paid : (p : Settings) (m : Mesh) (f finest : ℕ) (c : Loc) (axis : ℕ) (high : Bool) → Payer p m f finest c → outwards high (own_pair p m f c axis high) ≤ limit p m f finest c axis high
 own_paid p m f finest c axis high x =
     let l : look m f c ≡ stored m f c = (look_law m f c x.mesh).at_leaf x.leaf in
     let d = donated p (moves_at p f).order (seen_next p m f c axis (not high)) (look m f c) (seen_next p m f c axis high) (speed p f axis high c.level) (speed p f axis high finest) x.positive (speed_up p f axis high c.level finest (leaf_level p m f finest c x)) in
-    let e = leaving_own p m f c axis high in
-    subst (λ v. leaving high (own_pair p m f c axis high) ≤ portion (most (moves_at p f).order v) (speed p f axis high finest) p.denominator) l
+    let e = outwards_own p m f c axis high in
+    subst (λ v. outwards high (own_pair p m f c axis high) ≤ portion (most (moves_at p f).order v) (speed p f axis high finest) p.denominator) l
     (subst (λ v. v ≤ portion (most (moves_at p f).order (look m f c)) (speed p f axis high finest) p.denominator) (sym e) d)
 
 -- into a finer cell across the side
 abbrev into : Settings → Mesh → ℕ → Loc → ℕ → Bool → ℕ → ℕ
-into p m f o axis high j = leaving high (own_pair p m f (child m.shape.dims o j) axis (not high))
+into p m f o axis high j = outwards high (own_pair p m f (child m.shape.dims o j) axis (not high))
 
 into_is : (p : Settings) (m : Mesh) (f : ℕ) (d : Loc) (axis : ℕ) (high : Bool) →
-    leaving high (own_pair p m f d axis (not high)) ≡ portion (reconstructed (moves_at p f).order (seen_second p m f d axis (not high)) (seen_next p m f d axis (not high)) (look m f d)) (speed p f axis high d.level) p.denominator
+    outwards high (own_pair p m f d axis (not high)) ≡ portion (reconstructed (moves_at p f).order (seen_second p m f d axis (not high)) (seen_next p m f d axis (not high)) (look m f d)) (speed p f axis high d.level) p.denominator
 into_is p m f d axis true = refl
 into_is p m f d axis false = refl
 
@@ -206,12 +206,12 @@ all_finer_paid p m f finest c o axis high x used meet io =
     omega arith
 
 -- the part of a sum of pairs
-leaving_sum : (high : Bool) (list : List ℕ) (each : ℕ → Pair) → leaving high (sum_pairs list each) ≡ sum_over list (λ j. leaving high (each j))
-leaving_sum true list each = refl
-leaving_sum false list each = refl
+outwards_sum : (high : Bool) (list : List ℕ) (each : ℕ → Pair) → outwards high (sum_pairs list each) ≡ sum_over list (λ j. outwards high (each j))
+outwards_sum true list each = refl
+outwards_sum false list each = refl
 
 -- no more passes a face of the domain
-outside_less : (kind : FaceKind) (high : Bool) (own : Pair) → leaving high (pair_outside kind own) ≤ leaving high own
+outside_less : (kind : FaceKind) (high : Bool) (own : Pair) → outwards high (pair_outside kind own) ≤ outwards high own
 outside_less Periodic high own = omega arith
 outside_less Outflow high own = omega arith
 outside_less Inflow high own = omega arith
@@ -219,7 +219,7 @@ outside_less Reflecting true own = omega arith
 outside_less Reflecting false own = omega arith
 
 -- through a side
-side_paid : (p : Settings) (m : Mesh) (f finest : ℕ) (c : Loc) (axis : ℕ) (high : Bool) → Payer p m f finest c → axis < m.shape.dims → (o : Option Loc) → cell_across m c axis high ≡ o → leaving high (face_pair_by p m f c axis high o) ≤ limit p m f finest c axis high
+side_paid : (p : Settings) (m : Mesh) (f finest : ℕ) (c : Loc) (axis : ℕ) (high : Bool) → Payer p m f finest c → axis < m.shape.dims → (o : Option Loc) → cell_across m c axis high ≡ o → outwards high (face_pair_by p m f c axis high o) ≤ limit p m f finest c axis high
 side_paid p m f finest c axis high x used None meet =
     let a = outside_less (kind_at p axis high) high (own_pair p m f c axis high) in
     let b = own_paid p m f finest c axis high x in omega arith
@@ -228,11 +228,11 @@ side_paid p m f finest c axis high x used (Some o) meet = by (is_inner m (block_
     finer : ℕ → Pair
     finer j = own_pair p m f (child m.shape.dims o j) axis (not high)
 
-    by : (b : Bool) → is_inner m (block_of m o) ≡ b → leaving high (cond b (sum_pairs (children_at m.shape.dims axis (not high)) finer) (own_pair p m f c axis high)) ≤ limit p m f finest c axis high
-    by true io = subst (λ v. v ≤ limit p m f finest c axis high) (sym (leaving_sum high (children_at m.shape.dims axis (not high)) finer)) (all_finer_paid p m f finest c o axis high x used meet io)
+    by : (b : Bool) → is_inner m (block_of m o) ≡ b → outwards high (cond b (sum_pairs (children_at m.shape.dims axis (not high)) finer) (own_pair p m f c axis high)) ≤ limit p m f finest c axis high
+    by true io = subst (λ v. v ≤ limit p m f finest c axis high) (sym (outwards_sum high (children_at m.shape.dims axis (not high)) finer)) (all_finer_paid p m f finest c o axis high x used meet io)
     by false io = own_paid p m f finest c axis high x
 
-paid_through : (p : Settings) (m : Mesh) (f finest : ℕ) (c : Loc) (axis : ℕ) (high : Bool) → Payer p m f finest c → axis < m.shape.dims → leaving high (face_pair p m f c axis high) ≤ limit p m f finest c axis high
+paid_through : (p : Settings) (m : Mesh) (f finest : ℕ) (c : Loc) (axis : ℕ) (high : Bool) → Payer p m f finest c → axis < m.shape.dims → outwards high (face_pair p m f c axis high) ≤ limit p m f finest c axis high
 unfolding face_pair
 paid_through p m f finest c axis high x used = side_paid p m f finest c axis high x used (cell_across m c axis high) refl
 
@@ -272,7 +272,7 @@ pays_at_most p m f finest c mesh coarse rates inside leaf =
     omega arith
 
 -- what leaves a cell with nothing is nothing
-leaves_nothing : (p : Settings) (m : Mesh) (f : ℕ) (c : Loc) (axis : ℕ) (high : Bool) → Payer p m f 10 c → axis < m.shape.dims → stored m f c ≡ 0 → leaving high (face_pair p m f c axis high) ≡ 0
+leaves_nothing : (p : Settings) (m : Mesh) (f : ℕ) (c : Loc) (axis : ℕ) (high : Bool) → Payer p m f 10 c → axis < m.shape.dims → stored m f c ≡ 0 → outwards high (face_pair p m f c axis high) ≡ 0
 leaves_nothing p m f c axis high x used none =
     let a = paid_through p m f 10 c axis high x used in
     let b : limit p m f 10 c axis high ≡ 0 = ap (λ v. portion (most (moves_at p f).order v) (speed p f axis high 10) p.denominator) none ∙ ap (λ v. portion v (speed p f axis high 10) p.denominator) (most_zero (moves_at p f).order) ∙ portion_nothing (speed p f axis high 10) p.denominator x.positive in
@@ -285,15 +285,15 @@ reconstructed_zero p order behind here ahead r h none =
     let b : portion (most order here) r p.denominator ≡ 0 = ap (λ v. portion (most order v) r p.denominator) none ∙ ap (λ v. portion v r p.denominator) (most_zero order) ∙ portion_nothing r p.denominator h in
     omega arith
 
-turned : (high : Bool) (x : Pair) → entering high x ≡ leaving (not high) x
+turned : (high : Bool) (x : Pair) → inwards high x ≡ outwards (not high) x
 turned true x = refl
 turned false x = refl
 
-entering_sum : (high : Bool) (list : List ℕ) (each : ℕ → Pair) → entering high (sum_pairs list each) ≡ sum_over list (λ j. leaving (not high) (each j))
-entering_sum true list each = refl
-entering_sum false list each = refl
+inwards_sum : (high : Bool) (list : List ℕ) (each : ℕ → Pair) → inwards high (sum_pairs list each) ≡ sum_over list (λ j. outwards (not high) (each j))
+inwards_sum true list each = refl
+inwards_sum false list each = refl
 
-outside_nothing : (kind : FaceKind) (high : Bool) (own : Pair) → entering high own ≡ 0 → entering high (pair_outside kind own) ≡ 0
+outside_nothing : (kind : FaceKind) (high : Bool) (own : Pair) → inwards high own ≡ 0 → inwards high (pair_outside kind own) ≡ 0
 outside_nothing Periodic high own h = h
 outside_nothing Outflow high own h = h
 outside_nothing Inflow high own h = h
@@ -301,7 +301,7 @@ outside_nothing Reflecting true own h = refl
 outside_nothing Reflecting false own h = refl
 
 -- a term is at most the sum
-term_least : (n : ℕ) (g : ℕ → ℕ) (j : ℕ) → j < n → g j ≤ sum_to n g
+pub term_least : (n : ℕ) (g : ℕ → ℕ) (j : ℕ) → j < n → g j ≤ sum_to n g
 term_least zero g j h = absurd (omega arith)
 term_least (suc n) g j h = elim (cases_eq j n) [
   | inl e ↦ let a : g j ≡ g n = ap g e in omega arith
@@ -316,35 +316,35 @@ over_zero xs g h = let a = none xs in omega arith
     none (x ∷ xs) = let a = none xs in omega arith
 
 enters_nothing : (p : Settings) (m : Mesh) (f : ℕ) (c : Loc) (axis : ℕ) (high : Bool) → 1 ≤ p.denominator → IsMesh m → (o : Option Loc) → cell_across m c axis high ≡ o → seen_next p m f c axis high ≡ 0 →
-    entering high (face_pair_by p m f c axis high o) ≡ 0
+    inwards high (face_pair_by p m f c axis high o) ≡ 0
 enters_nothing p m f c axis high h mesh o meet none = by o meet
   where
-    own : entering high (own_pair p m f c axis high) ≡ 0
-    own = entering_own p m f c axis high ∙ reconstructed_zero p (moves_at p f).order (seen_second p m f c axis high) (seen_next p m f c axis high) (look m f c) (speed p f axis (not high) c.level) h none
+    own : inwards high (own_pair p m f c axis high) ≡ 0
+    own = inwards_own p m f c axis high ∙ reconstructed_zero p (moves_at p f).order (seen_second p m f c axis high) (seen_next p m f c axis high) (look m f c) (speed p f axis (not high) c.level) h none
 
-    finer : (o : Loc) (j : ℕ) → look m f o ≡ 0 → j < parts m.shape.dims → leaving (not high) (own_pair p m f (child m.shape.dims o j) axis (not high)) ≡ 0
+    finer : (o : Loc) (j : ℕ) → look m f o ≡ 0 → j < parts m.shape.dims → outwards (not high) (own_pair p m f (child m.shape.dims o j) axis (not high)) ≡ 0
     finer o j nil few =
         let d : Loc = child m.shape.dims o j in
         let sum = children_add_up m f o mesh in
         let least = term_least (parts m.shape.dims) (λ i. look m f (child m.shape.dims o i)) j few in
-        leaving_own p m f d axis (not high) ∙ reconstructed_zero p (moves_at p f).order (seen_next p m f d axis (not (not high))) (look m f d) (seen_next p m f d axis (not high)) (speed p f axis (not high) d.level) h (omega arith)
+        outwards_own p m f d axis (not high) ∙ reconstructed_zero p (moves_at p f).order (seen_next p m f d axis (not (not high))) (look m f d) (seen_next p m f d axis (not high)) (speed p f axis (not high) d.level) h (omega arith)
 
     near : ℕ → Bool
     near j = cond (not high) (is_high_half j axis) (not (is_high_half j axis))
 
-    all : (o : Loc) → look m f o ≡ 0 → sum_over (children_at m.shape.dims axis (not high)) (λ j. leaving (not high) (own_pair p m f (child m.shape.dims o j) axis (not high))) ≡ 0
-    all o nil = over_zero (children_at m.shape.dims axis (not high)) (λ j. leaving (not high) (own_pair p m f (child m.shape.dims o j) axis (not high)))
-        (sum_filter near (λ j. leaving (not high) (own_pair p m f (child m.shape.dims o j) axis (not high))) (λ _. 0) 0 (parts m.shape.dims) (λ j l pass. let e = finer o j nil (omega arith) in omega arith))
+    all : (o : Loc) → look m f o ≡ 0 → sum_over (children_at m.shape.dims axis (not high)) (λ j. outwards (not high) (own_pair p m f (child m.shape.dims o j) axis (not high))) ≡ 0
+    all o nil = over_zero (children_at m.shape.dims axis (not high)) (λ j. outwards (not high) (own_pair p m f (child m.shape.dims o j) axis (not high)))
+        (sum_filter near (λ j. outwards (not high) (own_pair p m f (child m.shape.dims o j) axis (not high))) (λ _. 0) 0 (parts m.shape.dims) (λ j l pass. let e = finer o j nil (omega arith) in omega arith))
 
-    inside : (o : Loc) → look m f o ≡ 0 → (b : Bool) → entering high (cond b (sum_pairs (children_at m.shape.dims axis (not high)) (λ j. own_pair p m f (child m.shape.dims o j) axis (not high))) (own_pair p m f c axis high)) ≡ 0
-    inside o nil true = entering_sum high (children_at m.shape.dims axis (not high)) (λ j. own_pair p m f (child m.shape.dims o j) axis (not high)) ∙ all o nil
+    inside : (o : Loc) → look m f o ≡ 0 → (b : Bool) → inwards high (cond b (sum_pairs (children_at m.shape.dims axis (not high)) (λ j. own_pair p m f (child m.shape.dims o j) axis (not high))) (own_pair p m f c axis high)) ≡ 0
+    inside o nil true = inwards_sum high (children_at m.shape.dims axis (not high)) (λ j. own_pair p m f (child m.shape.dims o j) axis (not high)) ∙ all o nil
     inside o nil false = own
 
-    by : (o : Option Loc) → cell_across m c axis high ≡ o → entering high (face_pair_by p m f c axis high o) ≡ 0
+    by : (o : Option Loc) → cell_across m c axis high ≡ o → inwards high (face_pair_by p m f c axis high o) ≡ 0
     by None meet = outside_nothing (kind_at p axis high) high (own_pair p m f c axis high) own
     by (Some o) meet = inside o (sym (ap (seen_in p m f axis high c.level) meet) ∙ none) (is_inner m (block_of m o))
 
-enters_face : (p : Settings) (m : Mesh) (f : ℕ) (c : Loc) (axis : ℕ) (high : Bool) → 1 ≤ p.denominator → IsMesh m → seen_next p m f c axis high ≡ 0 → entering high (face_pair p m f c axis high) ≡ 0
+enters_face : (p : Settings) (m : Mesh) (f : ℕ) (c : Loc) (axis : ℕ) (high : Bool) → 1 ≤ p.denominator → IsMesh m → seen_next p m f c axis high ≡ 0 → inwards high (face_pair p m f c axis high) ≡ 0
 unfolding face_pair
 enters_face p m f c axis high h mesh none = enters_nothing p m f c axis high h mesh (cell_across m c axis high) refl none
 

@@ -4,3 +4,4 @@ pub mod StageLaws
 pub mod RemapLaws
 pub mod ReactionLaws
 pub mod DropLaws
+pub mod FileLaws

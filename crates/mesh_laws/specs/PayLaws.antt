@@ -26,16 +26,16 @@ PaysAtMost = (p : Settings) (m : Mesh) (f finest : ℕ) (c : Loc) → IsMesh m �
     IsIn (cell_lattice m) c → OnLeaf m c → loss p m f c ≤ stored m f c
 
 -- what of a pair at a side of a cell leaves the cell, and what enters it
-abbrev pub leaving : Bool → Pair → ℕ
-leaving high x = cond high x.right x.left
+abbrev pub outwards : Bool → Pair → ℕ
+outwards high x = cond high x.right x.left
 
-abbrev pub entering : Bool → Pair → ℕ
-entering high x = cond high x.left x.right
+abbrev pub inwards : Bool → Pair → ℕ
+inwards high x = cond high x.left x.right
 
 -- what leaves a cell with nothing in it is nothing, and what enters it from where nothing is seen is nothing
 pub record PassesNothing (p : Settings) (m : Mesh) (f : ℕ) (c : Loc) (axis : ℕ) (high : Bool) : Type 0 where
-  pub leaves : stored m f c ≡ 0 → leaving high (face_pair p m f c axis high) ≡ 0
-  pub enters : seen_next p m f c axis high ≡ 0 → entering high (face_pair p m f c axis high) ≡ 0
+  pub leaves : stored m f c ≡ 0 → outwards high (face_pair p m f c axis high) ≡ 0
+  pub enters : seen_next p m f c axis high ≡ 0 → inwards high (face_pair p m f c axis high) ≡ 0
 
 -- at each face of a cell of a leaf, by either order
 abbrev pub NothingFromNothing : Type 0

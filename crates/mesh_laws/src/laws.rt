@@ -1,10 +1,11 @@
 //! Laws of the definitions.
 
 ghost use Rattle.mesh_laws.specs.DropLaws.{CutLaw, DropsAreWhatWasCut};
+ghost use Rattle.mesh_laws.specs.FileLaws.{FilesOfStopped, NoFilesAtStart};
 ghost use Rattle.mesh_laws.specs.LookLaws.{LookLaw, LooksAddUp};
 ghost use Rattle.mesh_laws.specs.PayLaws.{NothingFromNothing, PaysAtMost};
-ghost use Rattle.mesh_laws.specs.ReactionLaws.{ReactionBalances, ReactionKeepsSum};
-ghost use Rattle.mesh_laws.specs.RemapLaws.{RemapKeepsTotals};
+ghost use Rattle.mesh_laws.specs.ReactionLaws.{ReactionBalances, ReactionKeepsSum, ReactionsAreKernel};
+ghost use Rattle.mesh_laws.specs.RemapLaws.{RemapIsMesh, RemapKeepsTotals};
 ghost use Rattle.mesh_laws.specs.StageLaws.{StageConserves};
 
 /// The look is what is stored on a leaf, the sum of the children's looks where finer cells are stored, and the share of
@@ -27,19 +28,30 @@ pub fn conservation_law()
     ensures { StageConserves }
 {}
 
-/// On any tree of the same lattice a field's total is what it was.
-pub fn remap_law()
-    ensures { RemapKeepsTotals }
+/// On any tree of the same lattice a field's total is what it was; on a balanced one the mesh is a mesh again, with just
+/// the tree's inner nodes.
+pub fn remap_laws()
+    ensures totals { RemapKeepsTotals }
+    ensures mesh { RemapIsMesh }
 {}
 
-/// By any kernel a reaction keeps the sum over the fields, and a field's total changes by what is made and used of it.
+/// By any kernel a reaction keeps the sum over the fields, and a field's total changes by what is made and used of it; a
+/// problem's reactions are a kernel.
 pub fn reaction_laws()
     ensures sum { ReactionKeepsSum }
     ensures balance { ReactionBalances }
+    ensures kernel { ReactionsAreKernel }
 {}
 
 /// A field that stays on a leaf keeps its totals there, any other is made zero, and what is dropped is exactly that.
 pub fn drop_laws()
     ensures cut { CutLaw }
     ensures drops { DropsAreWhatWasCut }
+{}
+
+/// A run that stops at a cycle has the dumps of the opening and of the cycles before, and no history; one that stops at
+/// the start has no file.
+pub fn file_laws()
+    ensures stopped { FilesOfStopped }
+    ensures at_start { NoFilesAtStart }
 {}

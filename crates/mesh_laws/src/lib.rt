@@ -6,4 +6,4 @@
 
 mod laws;
 
-pub use laws::{conservation_law, drop_laws, look_laws, pay_laws, reaction_laws, remap_law};
+pub use laws::{conservation_law, drop_laws, file_laws, look_laws, pay_laws, reaction_laws, remap_laws};
