@@ -8,3 +8,4 @@ pub mod Inflows
 pub mod CycleBounds
 pub mod OpeningSums
 pub mod RunBounds
+pub mod Outside

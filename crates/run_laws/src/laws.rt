@@ -2,6 +2,7 @@
 
 ghost use Rattle.run_laws.specs.BoundLaws.{NoSumPassesTheBound, NoTotalFallsBelowZero, RunsStayWithin, SumGrowsByInflow};
 ghost use Rattle.run_laws.specs.HistoryLaws.{CyclesBalance, HistoryBalances};
+ghost use Rattle.run_laws.specs.MaskLaws.{CyclesAreZeroOutside};
 ghost use Rattle.run_laws.specs.TreeLaws.{NextIsLeastTree, OpeningIsLeastTree, RunsStandOnTrees};
 
 /// The opening tree and each next tree are the least ones, and each leaf changes by at most one level; so every mesh of a
@@ -27,4 +28,10 @@ pub fn bound_laws()
     ensures grows { SumGrowsByInflow }
     ensures bounded { NoSumPassesTheBound }
     ensures runs { RunsStayWithin }
+{}
+
+/// After each stage of a cycle, after its reaction and after its check, a field that does not stay on a leaf is zero in
+/// each of its cells.
+pub fn mask_law()
+    ensures { CyclesAreZeroOutside }
 {}
