@@ -103,6 +103,7 @@ apart x m (y ∷ ys) each h = elim (or_cases (same_loc m y) (is_listed ys m) h) 
 
 -- different locations that are all in a list are no more than it has
 pub distinct_few : (xs ys : List Loc) → IsDistinct same_loc xs → ((l : Loc) → is_listed xs l ≡ true → is_listed ys l ≡ true) → length xs ≤ length ys
+unfolding IsDistinct
 distinct_few [] ys distinct within = omega arith
 distinct_few (x ∷ xs) ys distinct within =
     let here = within x (or_left (same_loc x x) (is_listed xs x) (same_loc-self x)) in

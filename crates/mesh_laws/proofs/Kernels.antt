@@ -57,7 +57,7 @@ zeros_item zero i = refl
 zeros_item (suc n) zero = refl
 zeros_item (suc n) (suc i) = zeros_item n i
 
-zeros_length : (n : ℕ) → length (replicate n 0) ≡ n
+zeros_length : (n : ℕ) → length {A = ℕ} (replicate n 0) ≡ n
 zeros_length zero = refl
 zeros_length (suc n) = let e = zeros_length n in omega arith
 
@@ -172,9 +172,10 @@ each_of fields (x ∷ xs) h = (h 0 x (omega arith), each_of fields xs (λ i d l.
 
 -- all reactions
 ends : (fields count : ℕ) (cell : List ℕ) (xs : List Reaction) (r : Reacted) → Each fields xs → Comes fields count cell r → Comes fields (count + length xs) cell (fold after_reaction r xs)
-ends fields count cell [] r each so_far = subst (λ n. Comes fields n cell r) (omega arith) so_far
+ends fields count cell [] r each so_far = let e : count ≡ count + 0 = omega arith in subst (λ n. Comes fields n cell r) e so_far
 ends fields count cell (x ∷ xs) r each so_far =
-    subst (λ n. Comes fields n cell (fold after_reaction (after_reaction r x) xs)) (omega arith)
+    let e : suc count + length xs ≡ count + suc (length xs) = omega arith in
+    subst (λ n. Comes fields n cell (fold after_reaction (after_reaction r x) xs)) e
     (ends fields (suc count) cell xs (after_reaction r x) each.1 (goes_on fields count cell r x each.0 so_far))
 
 -- zeros stay zeros

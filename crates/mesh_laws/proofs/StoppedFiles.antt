@@ -4,8 +4,9 @@ use Rattle.std.proofs.lemmas.List.{append-nil}
 use Rattle.std.specs.List.{flat_map, range_with_len}
 use Rattle.package_fields.specs.Kernel.{Reacted}
 use Rattle.problem_set.specs.Settings.{Settings}
-use Rattle.mesh_rules.specs.Run.{Outcome, next_outcome, opened, run, run_from, too_many_at, too_many_at_start}
-use Rattle.mesh_rules.specs.Files.{NamedText, dumps_at, dumps_of_cycle, files_of, of_running}
+use Rattle.mesh_rules.specs.Run.{Reached, next_outcome, opened, run, run_from, too_many_at, too_many_at_start}
+use Rattle.mesh_rules.specs.Files.{NamedText, dumps_at, dumps_of_cycle, history_file_name, lines_until, of_running}
+use Rattle.mesh_rules.specs.Texts.{history_of}
 use Rattle.mesh_laws.specs.FileLaws.{FilesOfStopped, NoFilesAtStart}
 
 -- one cycle more
@@ -43,6 +44,10 @@ range_nothing : {X : Type 0} (f : ℕ → List X) (a n : ℕ) → ((i : ℕ) →
 range_nothing f a zero h = refl
 range_nothing f a (suc n) h = ap (λ v. v ++ flat_map f (range_with_len (a + 1) n)) (h a (omega arith)) ∙ range_nothing f (a + 1) n (λ i l. h i (omega arith))
 
+-- the history, where a run completes
+abbrev history_file : Settings → (List ℕ → Reacted) → List ℕ → Reached → List NamedText
+history_file p react prefix r = (history_file_name prefix, history_of p (lines_until p react p.nlim)) ∷ []
+
 pub files_of_stopped : FilesOfStopped
 files_of_stopped p react prefix cycle leaves few stop =
     let f : ℕ → List NamedText = dumps_of_cycle p react prefix in
@@ -50,7 +55,7 @@ files_of_stopped p react prefix cycle leaves few stop =
     let whole : p.nlim + 1 ≡ cycle + (p.nlim + 1 - cycle) = omega arith in
     let later = range_nothing f (0 + cycle) (p.nlim + 1 - cycle) (λ i l. ap (of_running (dumps_at p prefix i)) (at i (omega arith))) in
     let dumps = ap (λ v. flat_map f (range_with_len 0 v)) whole ∙ range_parts f 0 cycle (p.nlim + 1 - cycle) ∙ ap (λ v. flat_map f (range_with_len 0 cycle) ++ v) later ∙ append-nil (flat_map f (range_with_len 0 cycle)) in
-    two dumps (ap (of_running _) (at p.nlim few))
+    two dumps (ap (of_running (history_file p react prefix)) (at p.nlim few))
   where
     two : {a b c : List NamedText} → a ≡ c → b ≡ [] → a ++ b ≡ c
     two {a} {b} {c} e g = ap (λ v. a ++ v) g ∙ append-nil a ∙ e
@@ -59,7 +64,7 @@ pub no_files_at_start : NoFilesAtStart
 no_files_at_start p react prefix stop =
     let f : ℕ → List NamedText = dumps_of_cycle p react prefix in
     let dumps = range_nothing f 0 (p.nlim + 1) (λ i l. ap (of_running (dumps_at p prefix i)) (never_starts p react i stop)) in
-    two dumps (ap (of_running _) (never_starts p react p.nlim stop))
+    two dumps (ap (of_running (history_file p react prefix)) (never_starts p react p.nlim stop))
   where
     two : {a b : List NamedText} → a ≡ [] → b ≡ [] → a ++ b ≡ []
     two {a} {b} e g = ap (λ v. v ++ b) e ∙ g
