@@ -1,10 +1,12 @@
 -- How large blocks are.
-use Rattle.std.specs.Prelude.{◌≡◌, ℕ, ◌≤◌, cond, nat_lt, List, length, slice_index}
+use Rattle.std.specs.Prelude.{◌≡◌, ℕ, ◌%◌, ◌<◌, ◌≤◌, cond, nat_lt, List, length, slice_index}
 
--- 1 to 64 cells along an axis in use, one along an axis that is not
+-- an even number of cells from 4 to 64 along an axis in use, one along an axis that is not
 pub record IsCellCount (dims axis cells : ℕ) : Type 0 where
   pub least : 1 ≤ cells
   pub most : cells ≤ cond (nat_lt axis dims) 64 1
+  pub wide : axis < dims → 4 ≤ cells
+  pub even : axis < dims → cells % 2 ≡ 0
 
 -- the blocks of a mesh with one to three axes in use
 pub record IsLayout (dims : ℕ) (cells : List ℕ) : Type 0 where

@@ -1,15 +1,14 @@
 -- The meshes of a cycle stand on the tree with which it starts.
-use Rattle.std.proofs.Common.{◌≡◌, ℕ, zero, suc, ◌+◌, ◌-◌, ◌<◌, ◌≤◌, Bool, true, false, cond, nat_le, List, IsTrue, slice_index, refl, sym, ap, ◌∙◌, arith}
+use Rattle.std.proofs.Common.{◌≡◌, ℕ, zero, suc, ◌-◌, cond, List, slice_index, refl, arith}
 use Rattle.morton_order.specs.declared.space.Loc.{Loc}
-use Rattle.morton_order.specs.declared.space.Shape.{Shape}
 use Rattle.package_fields.specs.Kernel.{Reacted}
 use Rattle.problem_set.specs.Settings.{Settings}
-use Rattle.mesh_rules.specs.Mesh.{IsMesh, Mesh, block_of, filled, is_inner, stored}
+use Rattle.mesh_rules.specs.Mesh.{IsMesh, Mesh, block_of, filled, stored}
 use Rattle.mesh_rules.specs.Fields.{field_count}
 use Rattle.mesh_rules.specs.Stage.{stage, staged}
 use Rattle.mesh_rules.specs.Reaction.{react_mesh, reacted_cell}
 use Rattle.mesh_rules.specs.Mask.{Mask, cut, kept_by_check, kept_by_exchange, kept_by_reaction, stays}
-use Rattle.mesh_rules.specs.Cycle.{Held, State, check_held, checked, held_at, held_by, react_held, reacted_to, stage_held, staged_to}
+use Rattle.mesh_rules.specs.Cycle.{State, checked, reacted_to, staged_to}
 use Rattle.mesh_rules.specs.Fit.{IsMeshOf}
 use Rattle.mesh_laws.specs.PayLaws.{IsNoFiner}
 

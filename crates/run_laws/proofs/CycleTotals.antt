@@ -1,11 +1,10 @@
 -- What a cycle does to a field's total.
-use Rattle.std.proofs.Common.{◌≡◌, ℕ, zero, suc, ◌+◌, ◌-◌, ◌<◌, ◌≤◌, List, [], ◌∷◌, length, refl, sym, ap, ◌∙◌, subst, arith}
+use Rattle.std.proofs.Common.{◌≡◌, ℕ, zero, suc, ◌+◌, ◌-◌, ◌<◌, List, [], ◌∷◌, length, refl, sym, ap, ◌∙◌, subst, arith}
 use Rattle.std.specs.List.{slice_index_or, zip}
 use Rattle.std.proofs.lemmas.List.Elements.{All-get_or}
 use Rattle.morton_order.specs.declared.space.Loc.{Loc}
 use Rattle.morton_order.specs.declared.space.Shape.{Shape}
 use Rattle.package_fields.specs.declared.field.Field.{Field}
-use Rattle.package_fields.specs.declared.flow.Flow.{Flow}
 use Rattle.package_fields.specs.Kernel.{KernelLaws, Reacted}
 use Rattle.problem_set.specs.Settings.{Settings}
 use Rattle.problem_set.specs.declared.entries.Moves.{Moves}
@@ -14,21 +13,21 @@ use Rattle.problem_set.specs.SettingsOf.{settings_of}
 use Rattle.problem_set.specs.Rates.{rate_sum}
 use Rattle.problem_set.specs.SoundEntries.{IsFittingSum}
 use Rattle.mesh_rules.specs.Sums.{sum_over, sum_to}
-use Rattle.mesh_rules.specs.Mesh.{Mesh, total_of}
-use Rattle.mesh_rules.specs.Fields.{field_at, field_count, moves_at}
+use Rattle.mesh_rules.specs.Mesh.{total_of}
+use Rattle.mesh_rules.specs.Fields.{field_at, field_count}
 use Rattle.mesh_rules.specs.Stage.{inflow_of, leaf_inflow, leaf_outflow, outflow_of, stage}
 use Rattle.mesh_rules.specs.Reaction.{made_of, react_mesh, used_of}
-use Rattle.mesh_rules.specs.Mask.{dropped_of, kept_by_check, kept_by_exchange, kept_by_reaction, leaf_dropped}
-use Rattle.mesh_rules.specs.Cycle.{State, checked, drop_of, flow_of, leaf_drop, leaf_drop_at_check, leaf_drop_by_reaction, leaf_drop_in_stage, leaf_flow, reacted_to, staged_to}
+use Rattle.mesh_rules.specs.Mask.{dropped_of, kept_by_check, kept_by_exchange, kept_by_reaction}
+use Rattle.mesh_rules.specs.Cycle.{State, checked, drop_of, flow_of, leaf_drop_at_check, leaf_drop_by_reaction, leaf_drop_in_stage, leaf_flow, reacted_to, staged_to}
 use Rattle.mesh_rules.specs.Fit.{IsMeshOf}
-use Rattle.mesh_laws.specs.PayLaws.{HasFittingRates, IsNoFiner}
-use Rattle.mesh_laws.proofs.Cells.{over_plus, over_same, over_swap}
+use Rattle.mesh_laws.specs.PayLaws.{HasFittingRates}
+use Rattle.mesh_laws.proofs.Cells.{over_plus, over_swap}
 use Rattle.mesh_laws.proofs.Conserves.{stage_conserves}
 use Rattle.mesh_laws.proofs.Drops.{drops_are_what_was_cut}
 use Rattle.mesh_laws.proofs.Reactions.{reaction_balances}
 use Rattle.mesh_laws.proofs.Totals.{sum_to-same}
-use Rattle.run_laws.specs.HistoryLaws.{CyclesBalance, RowBalances}
-use Rattle.run_laws.proofs.CycleMeshes.{OnTreeOf, on_checked, on_reacted, on_reacting, on_stage, on_staged}
+use Rattle.run_laws.specs.HistoryLaws.{CyclesBalance}
+use Rattle.run_laws.proofs.CycleMeshes.{on_reacted, on_reacting, on_stage, on_staged}
 
 -- lists side by side
 pub zip_at : {X Y : Type 0} (xs : List X) (ys : List Y) (i : ℕ) (d : X) (e : Y) → i < length xs → i < length ys → slice_index_or (zip xs ys) i (d, e) ≡ (slice_index_or xs i d, slice_index_or ys i e)

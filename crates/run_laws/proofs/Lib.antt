@@ -3,3 +3,9 @@ pub mod CycleTotals
 pub mod TagFacts
 pub mod RunTrees
 pub mod RunRows
+pub mod SideSums
+pub mod Inflows
+pub mod CycleBounds
+pub mod OpeningSums
+pub mod RunBounds
+pub mod Outside

@@ -1,15 +1,15 @@
 -- Each row of the history of a run balances.
-use Rattle.std.proofs.Common.{◌≡◌, ℕ, suc, ◌+◌, ◌<◌, List, refl, sym, ap, ◌∙◌, subst, arith}
+use Rattle.std.proofs.Common.{◌≡◌, ℕ, ◌<◌, List, refl, sym, ap, ◌∙◌, subst, arith}
 use Rattle.package_fields.specs.declared.flow.Flow.{Flow}
 use Rattle.package_fields.specs.Flow.{no_flow}
 use Rattle.package_fields.specs.Kernel.{KernelLaws, Reacted}
 use Rattle.problem_set.specs.declared.problem.Problem.{Problem}
 use Rattle.problem_set.specs.SettingsOf.{settings_of}
-use Rattle.mesh_rules.specs.Mesh.{Mesh, total_of}
+use Rattle.mesh_rules.specs.Mesh.{total_of}
 use Rattle.mesh_rules.specs.Fields.{field_count}
 use Rattle.mesh_rules.specs.Remesh.{next_tree}
 use Rattle.mesh_rules.specs.Cycle.{State, checked, drop_of, flow_of, settled, tags_of}
-use Rattle.mesh_rules.specs.Run.{Reached, last_drop, last_flow, reached, remeshed, run, running}
+use Rattle.mesh_rules.specs.Run.{Reached, last_drop, last_flow, reached, remeshed, running}
 use Rattle.mesh_rules.specs.Fit.{IsMeshOf}
 use Rattle.mesh_laws.proofs.Remaps.{remap_keeps_totals}
 use Rattle.run_laws.specs.HistoryLaws.{HistoryBalances, RowBalances}

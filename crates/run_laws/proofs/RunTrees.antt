@@ -1,8 +1,8 @@
 -- The meshes of a run stand on balanced trees.
-use Rattle.std.proofs.Common.{◌≡◌, ℕ, zero, suc, ◌+◌, ◌-◌, ◌<◌, ◌≤◌, Bool, true, false, cond, ◌&&◌, ◌||◌, not, nat_lt, nat_le, Option, Some, None, List, [], ◌∷◌, ◌++◌, length, map, All, IsTrue, refl, sym, ap, ◌∙◌, subst, arith, rules, inl, inr, ⊎_elim, ◌⊎◌, leb}
-use Rattle.std.specs.Prelude.{IsSome, slice_index}
+use Rattle.std.proofs.Common.{◌≡◌, ℕ, zero, suc, ◌+◌, ◌-◌, ◌<◌, ◌≤◌, Bool, true, false, cond, ◌&&◌, ◌||◌, not, nat_lt, nat_le, List, [], ◌∷◌, length, map, IsTrue, refl, sym, ap, ◌∙◌, subst, arith, rules, ⊎_elim}
+use Rattle.std.specs.Prelude.{slice_index}
 use Rattle.std.specs.Map.{lookup}
-use Rattle.std.specs.List.{enumerate_from, flat_map, list_any, range_with_len, slice_index_or, zip}
+use Rattle.std.specs.List.{enumerate_from, flat_map, list_any, slice_index_or, zip}
 use Rattle.std.proofs.lemmas.Bool.{cases_lt}
 use Rattle.std.proofs.lemmas.Bool.Decides.{nat_tests}
 use Rattle.std.proofs.lemmas.List.{length-map}
@@ -21,8 +21,8 @@ use Rattle.problem_set.specs.SoundEntries.{IsCriterion, IsStatic}
 use Rattle.block_tree.specs.declared.boxes.StaticBox.{StaticBox}
 use Rattle.block_tree.specs.declared.tags.Tag.{Tag}
 use Rattle.block_tree.specs.Tree.{IsBalanced, IsTree}
-use Rattle.block_tree.specs.Leaves.{inner_of, leaves_below, leaves_of, roots}
-use Rattle.block_tree.specs.Least.{IsLeast, forced, least, meets, wanted_by}
+use Rattle.block_tree.specs.Leaves.{inner_of, leaves_of, roots}
+use Rattle.block_tree.specs.Least.{forced, least, meets, wanted_by}
 use Rattle.block_tree.specs.Next.{FitTags, IsNear, IsNext, is_refine, merges, tag_at, wanted_next}
 use Rattle.block_tree.proofs.LeafList.{listed_leaf}
 use Rattle.block_tree.proofs.Next.{next_is_least, next_is_near, opening_is_least}
@@ -32,14 +32,14 @@ use Rattle.mesh_rules.specs.Look.{look}
 use Rattle.mesh_rules.specs.Fields.{field_count}
 use Rattle.mesh_rules.specs.Tags.{counted, measured_by, tag_of, wish}
 use Rattle.mesh_rules.specs.Remesh.{finest_inner, next_tree, remap}
-use Rattle.mesh_rules.specs.Mask.{cut, kept_by_check, stays}
-use Rattle.mesh_rules.specs.Cycle.{State, checked, reacted_to, settled, tags_of}
-use Rattle.mesh_rules.specs.Opening.{opening_mesh, opening_state, opening_total, opening_tree, root_mesh, static_of}
-use Rattle.mesh_rules.specs.Run.{Outcome, Reached, cycled, end_on_tree, leaf_limit, next_outcome, opened, reached, remeshed, remeshes_at, run, run_from, running, start_of, too_many_at, too_many_at_start}
+use Rattle.mesh_rules.specs.Mask.{kept_by_check, stays}
+use Rattle.mesh_rules.specs.Cycle.{State, reacted_to, settled, tags_of}
+use Rattle.mesh_rules.specs.Opening.{opening_mesh, opening_state, opening_tree, root_mesh, static_of}
+use Rattle.mesh_rules.specs.Run.{Outcome, Reached, cycled, leaf_limit, next_outcome, opened, reached, remeshed, remeshes_at, run, run_from, running, start_of, too_many_at, too_many_at_start}
 use Rattle.mesh_rules.specs.Fit.{IsMeshOf}
 use Rattle.mesh_laws.proofs.RemapMeshes.{filled_is_mesh, remap_is_mesh}
-use Rattle.run_laws.specs.TreeLaws.{IsNextTree, NextIsLeastTree, OpeningIsLeastTree, RunsStandOnTrees}
-use Rattle.run_laws.proofs.CycleMeshes.{OnTreeOf, on_checked, on_reacted}
+use Rattle.run_laws.specs.TreeLaws.{NextIsLeastTree, OpeningIsLeastTree, RunsStandOnTrees}
+use Rattle.run_laws.proofs.CycleMeshes.{on_reacted}
 use Rattle.run_laws.proofs.TagFacts.{left_of, right_of, root_refines, strongest_refines, tag_looked_up, tag_refines, tagged_listed}
 
 -- items of mapped lists and of tables
@@ -189,7 +189,7 @@ some_cells p (suc zero) h = p.grid_sound.cells_sound.along2.least
 some_cells p (suc (suc zero)) h = p.grid_sound.cells_sound.along3.least
 some_cells p (suc (suc (suc a))) h = absurd (omega arith)
 
-root_is_mesh : (p : Problem) → IsMesh (root_mesh (settings_of p))
+pub root_is_mesh : (p : Problem) → IsMesh (root_mesh (settings_of p))
 root_is_mesh p = record {
   shape = p.grid_sound.shape_sound;
   some_cells = some_cells p;
@@ -204,7 +204,7 @@ remap_of q m inner mesh shape cells tree balanced coarse few =
     let is = remap_is_mesh m (field_count q) inner mesh tree balanced in
     let base : Mesh = record m { inner = inner_of m.shape inner; leaves = leaves_of m.shape inner; totals = [] } in
     mesh_of_filled q base (look m) (record { shape = is.mesh.shape; some_cells = is.mesh.some_cells; tree = is.mesh.tree; balanced = is.mesh.balanced; leaves = is.mesh.leaves }) shape cells few
-    (λ l h. coarse l (sym (is.inner l) ∙ h))
+    (λ l h. coarse l (sym (is.nodes l) ∙ h))
 
 opening_is : (p : Problem) → length (leaves_of p.shape (opening_tree (settings_of p))) ≤ leaf_limit → IsMeshOf (settings_of p) (opening_mesh (settings_of p))
 opening_is p few =
@@ -273,6 +273,15 @@ comes_from q react c r e = by (run_from q react 0 (opened q) c) refl e
     by (running before) is h = record { before = before; runs = is; leads = leads_to q react (0 + suc c) before.state r h }
     by too_many_at_start is h = cc
     by (too_many_at at leaves) is h = cc
+
+-- a run that goes on began with the opening
+pub starts_from : (p : Problem) (react : List ℕ → Reacted) (r : Reached) → run (settings_of p) react 0 ≡ running r → r ≡ start_of (settings_of p) (opening_state (settings_of p))
+unfolding run run_from
+starts_from p react r e = by (nat_le (length (leaves_of p.shape (opening_tree (settings_of p)))) leaf_limit) e
+  where
+    by : (b : Bool) → cond b (running (start_of (settings_of p) (opening_state (settings_of p)))) too_many_at_start ≡ running r → r ≡ start_of (settings_of p) (opening_state (settings_of p))
+    by true h = goes_on _ r h
+    by false h = cc
 
 pub run_stands : RunsStandOnTrees
 unfolding run run_from

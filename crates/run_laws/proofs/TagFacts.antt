@@ -1,9 +1,8 @@
 -- What the tags of a cycle ask for.
-use Rattle.std.proofs.Common.{◌≡◌, ℕ, zero, suc, ◌+◌, ◌-◌, ◌<◌, ◌≤◌, Bool, true, false, cond, ◌&&◌, ◌||◌, eqb, rules, nat_lt, nat_le, Option, Some, None, List, [], ◌∷◌, length, map, All, IsTrue, refl, sym, ap, ◌∙◌, subst, arith, inl, inr, ⊎_elim, ◌⊎◌}
+use Rattle.std.proofs.Common.{◌≡◌, ℕ, zero, suc, ◌+◌, ◌<◌, ◌≤◌, Bool, true, false, cond, ◌&&◌, ◌||◌, eqb, rules, nat_lt, nat_le, Option, Some, List, [], ◌∷◌, length, map, IsTrue, refl, sym, subst, arith, inl, inr, ⊎_elim, ◌⊎◌}
 use Rattle.std.specs.Prelude.{IsSome}
-use Rattle.std.specs.List.{enumerate_from, list_any, slice_index_or, zip}
+use Rattle.std.specs.List.{enumerate_from, slice_index_or, zip}
 use Rattle.std.specs.Map.{lookup}
-use Rattle.std.proofs.lemmas.Bool.{cases_lt}
 use Rattle.std.proofs.lemmas.Bool.Decides.{nat_tests}
 use Rattle.morton_order.specs.declared.space.Loc.{Loc}
 use Rattle.morton_order.specs.Space.{same_loc}
@@ -17,11 +16,11 @@ use Rattle.mesh_rules.specs.declared.wish.Wish.{Wish}
 use Rattle.mesh_rules.specs.declared.wish.Wish.TheVariants.{Refine, Same, Derefine}
 use Rattle.mesh_rules.specs.Tags.{at_root, stronger, strongest, tag_of, wish_by}
 
-left_of : (a b : Bool) → (a && b) ≡ true → a ≡ true
+pub left_of : (a b : Bool) → (a && b) ≡ true → a ≡ true
 left_of true b e = refl
 left_of false b e = cc
 
-right_of : (a b : Bool) → (a && b) ≡ true → b ≡ true
+pub right_of : (a b : Bool) → (a && b) ≡ true → b ≡ true
 right_of true b e = e
 right_of false b e = cc
 

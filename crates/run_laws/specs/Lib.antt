@@ -1,2 +1,4 @@
 pub mod HistoryLaws
 pub mod TreeLaws
+pub mod BoundLaws
+pub mod MaskLaws

@@ -1,6 +1,8 @@
 //! Laws of cycles and runs.
 
+ghost use Rattle.run_laws.specs.BoundLaws.{NoSumPassesTheBound, NoTotalFallsBelowZero, RunsStayWithin, SumGrowsByInflow};
 ghost use Rattle.run_laws.specs.HistoryLaws.{CyclesBalance, HistoryBalances};
+ghost use Rattle.run_laws.specs.MaskLaws.{CyclesAreZeroOutside};
 ghost use Rattle.run_laws.specs.TreeLaws.{NextIsLeastTree, OpeningIsLeastTree, RunsStandOnTrees};
 
 /// The opening tree and each next tree are the least ones, and each leaf changes by at most one level; so every mesh of a
@@ -16,4 +18,20 @@ pub fn tree_laws()
 pub fn history_law()
     ensures cycles { CyclesBalance }
     ensures rows { HistoryBalances }
+{}
+
+/// In each cycle from a mesh of a problem no total falls below zero, the sum of all totals grows by at most what the
+/// problem counts as inflow, and where there is room for that it is at most 2^62 - 1 on each mesh of the cycle. Each
+/// state with which a cycle of a run starts leaves that room.
+pub fn bound_laws()
+    ensures paid { NoTotalFallsBelowZero }
+    ensures grows { SumGrowsByInflow }
+    ensures bounded { NoSumPassesTheBound }
+    ensures runs { RunsStayWithin }
+{}
+
+/// After each stage of a cycle, after its reaction and after its check, a field that does not stay on a leaf is zero in
+/// each of its cells.
+pub fn mask_law()
+    ensures { CyclesAreZeroOutside }
 {}
