@@ -59,26 +59,3 @@ impl Gate for MeetGate {
         }
     }
 }
-
-#[cfg(test)]
-mod tests {
-    use super::{Gate, MeetGate, OpenGate};
-    use std::thread::join;
-
-    #[test]
-    fn two_entries_at_one_time_meet(rt: HostRuntime) {
-        let gate = MeetGate::new(2_000_000_000);
-        join(&rt, || gate.enter(0), || gate.enter(1));
-        assert!(rt; gate.met());
-    }
-
-    #[test]
-    fn entries_one_after_another_do_not_meet(rt: HostRuntime) {
-        let gate = MeetGate::new(1000);
-        OpenGate.enter(0);
-        gate.enter(0);
-        assert!(rt; !gate.met());
-        gate.enter(1);
-        assert!(rt; !gate.met());
-    }
-}
