@@ -13,12 +13,8 @@ mod tags;
 mod trees;
 
 pub use boxes::StaticBox;
-<<<<<<< HEAD
-pub use laws::{behind_laws, change_law, inner_nodes_law, least_tree_law, leaves_law, next_tree_laws, worked_trees};
-=======
 pub use faults::TreeFault;
-pub use laws::{behind_laws, change_law, least_tree_law, leaves_law, next_tree_laws, worked_trees};
+pub use laws::{behind_laws, change_law, inner_nodes_law, least_tree_law, leaves_law, next_tree_laws, worked_trees};
 pub use table::{Behind, FineLeaves};
->>>>>>> 937b282 (Build trees with their table)
 pub use tags::Tag;
 pub use trees::Tree;
