@@ -3,7 +3,7 @@ use Rattle.std.proofs.Common.{◌≡◌, ◌≢◌, ◌∙◌, sym, ap, subst, r
 use Rattle.std.specs.Prelude.{All}
 use Rattle.std.specs.List.{enumerate_from, fold}
 use Rattle.std.proofs.Math.Nat.{mul-le-mul_right}
-use Rattle.std.proofs.lemmas.List.{ext_get_or, get_or-map, length-map, length-take, length-replicate, take_all}
+use Rattle.std.proofs.lemmas.List.{ext_get_or, get_or_default, get_or-map, length-map, length-take, length-replicate, take_all}
 use Rattle.std.proofs.lemmas.List.Sums.{fold_more}
 use Rattle.std.proofs.lemmas.List.FromFn.{length-enumerate_from, get_or-enumerate_from}
 use Rattle.std.proofs.lemmas.List.Elements.{All-from_get_or, All-get_or, All-take}
@@ -103,6 +103,17 @@ applied_more fields rs cell flows k x cell_now cell_new flows_now flows_new many
           (subst (λ (c : List ℕ). Moves flows_now flows_new x.from x.to (moved_by x c)) had.totals moves)
           ∙ ap (λ (s : Reacted). with_reacted flows s) (sym more);
     }
+
+-- the same for the reaction at a number of the list
+pub applied_next : (fields : ℕ) (rs : List Reaction) (cell : List ℕ) (flows : List Flow) (k : ℕ) (d : Reaction) (cell_now cell_new : List ℕ) (flows_now flows_new : List Flow)
+    → length cell ≡ fields → length flows ≡ fields → All (CanReact fields) rs → k < length rs
+    → Applied rs cell flows k cell_now flows_now
+    → (let x = slice_index_or rs k d in cell_new ≡ added (taken cell_now x.from (moved_by x cell_now)) x.to (moved_by x cell_now))
+    → (let x = slice_index_or rs k d in Moves flows_now flows_new x.from x.to (moved_by x cell_now))
+    → Applied rs cell flows (k + 1) cell_new flows_new
+applied_next fields rs cell flows k d cell_now cell_new flows_now flows_new many as_many can h had cell_is moves =
+    let x = slice_index_or rs k d in
+    applied_more fields rs cell flows k x cell_now cell_new flows_now flows_new many as_many can h (get_or_default rs k d x h) (All-get_or (CanReact fields) rs k d h can) had cell_is moves
 
 -- the cell keeps its sum, so it stays small
 pub applied_sum : (fields : ℕ) (rs : List Reaction) (cell : List ℕ) (flows : List Flow) (k : ℕ) (cell_now : List ℕ) (flows_now : List Flow)

@@ -88,7 +88,7 @@ pub after_reactions : (fields : ℕ) (cell : List ℕ) (xs : List Reaction) → 
 after_reactions fields cell xs many can =
     subst (λ (k : ℕ). After fields cell k (react_cell xs cell)) (omega arith) (after_all fields cell 0 (before_reactions cell) xs (after_none fields cell many) can)
 
-few_times : (n s k : ℕ) → n ≤ 256 → k ≤ n * s → k ≤ 256 * s
+pub few_times : (n s k : ℕ) → n ≤ 256 → k ≤ n * s → k ≤ 256 * s
 few_times n s k few h = let a : n * s ≤ 256 * s = mul-le-mul_right s few in omega (arith, a, h)
 
 pub reactions_keep_laws : ReactionsLaw

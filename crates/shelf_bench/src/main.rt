@@ -1,5 +1,6 @@
-//! A million places come and go on a shelf of 16,384 blocks with 256 fields, in an order that jumps about. Prints how many
-//! came, how many went and how many are there at the end; `bench/shelves.sh` measures the time.
+//! A million places come and a million go on a shelf of 16,384 blocks with 256 fields, in an order that jumps about: each
+//! place of a series is allocated, or freed where it is there, and then the series is run through once more, which frees
+//! what is left. Prints how many came and went; `bench/shelves.sh` measures the time.
 #![tactic(auto)]
 
 ghost use Rattle.std.specs.Prelude.{◌≡◌, ◌≤◌, ◌<◌, ◌+◌, ◌-◌, ◌^◌, IfOk};
@@ -16,7 +17,7 @@ const BLOCKS: u32 = 16_384;
 
 const FIELDS: u32 = 256;
 
-const CHANGES: u32 = 1_000_000;
+const CHANGES: u32 = 2_000_000;
 
 fn main(rt: HostRuntime) -> io::Result<()> {
     match count_of(rt.alloc()) {
@@ -35,7 +36,10 @@ fn count_of(alloc: Global) -> Result<u32, NoMemory>
     let mut shelf = Shelf::new(alloc, 0, BLOCKS, FIELDS)?;
     let mut came = 0;
     let mut state = 1u32;
-    for _ in 0..CHANGES {
+    for i in 0..CHANGES {
+        if i == CHANGES / 2 {
+            state = 1;
+        }
         state = state.wrapping_mul(1_664_525).wrapping_add(1_013_904_223);
         let at = Place {
             block: (state >> 16) % BLOCKS,

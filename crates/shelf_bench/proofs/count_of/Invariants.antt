@@ -1,5 +1,5 @@
 use Rattle.std.proofs.Common.{◌≡◌, ◌≤◌, length}
 use Rattle.shelf_bench.proofs.count_of.Given as goal
 
-abbrev pub invariant-loop : goal.invariant-loop
-invariant-loop l = record { first : l.shelf.first ≡ 0; fields : l.shelf.fields ≡ 256; blocks : length l.shelf.keys ≡ 16384; epoch : l.shelf.epoch ≤ l.counter; came : l.came ≤ l.counter }
+abbrev pub invariant-loop-i : goal.invariant-loop-i
+invariant-loop-i l = record { first : l.shelf.first ≡ 0; fields : l.shelf.fields ≡ 256; blocks : length l.shelf.keys ≡ 16384; epoch : l.shelf.epoch ≤ l.i; came : l.came ≤ l.i }
