@@ -51,7 +51,7 @@ inner_here s inner shape tree l il (suc k) (suc d) x few top level deep =
     let below = inner_here s inner shape tree l il k d (child s.dims x j) (omega arith) (sym child_is) (omega arith) (omega arith) in
     ap (λ (b : Bool). is_listed (cond b (x ∷ []) [] ++ pieces b (parts s.dims) (λ i. inner_below (suc k) s.dims inner (child s.dims x i)) []) l) e
     ∙ any_append_right (same_loc l) (x ∷ []) (flat_map (λ i. inner_below (suc k) s.dims inner (child s.dims x i)) (range_with_len 0 (parts s.dims)))
-        (any_flat (same_loc l) (λ i. inner_below (suc k) s.dims inner (child s.dims x i)) 0 (parts s.dims) j (omega arith) (omega arith) below)
+    (any_flat (same_loc l) (λ i. inner_below (suc k) s.dims inner (child s.dims x i)) 0 (parts s.dims) j (omega arith) (omega arith) below)
 
 pub inner_listed : (s : Shape) (inner : Loc → Bool) → IsShape s → IsTree s inner → (l : Loc) → inner l ≡ true → is_listed (inner_of s inner) l ≡ true
 unfolding inner_of

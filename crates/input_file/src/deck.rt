@@ -1,4 +1,5 @@
-ghost use Rattle.std.specs.Prelude.{◌≡◌, ◌<◌, ◌≤◌, ◌↔◌, [], Some, None, Ok, length, IsTrue, IfSome, IfNone, IfOk, OnOk, OnErr};
+ghost use Rattle.std.specs.Prelude.{◌≡◌, ◌<◌, ◌≤◌, ◌↔◌, [], Some, None, Ok, length, IsTrue, IfSome, IfNone, IfOk, OnOk};
+ghost use Rattle.std.specs.Prelude.{OnErr};
 ghost use Rattle.std.specs.Option.{option_copied};
 ghost use Rattle.std.specs.Str.{bytes_eq};
 ghost use Rattle.std.specs.Map.{lookup};
@@ -11,15 +12,16 @@ ghost use Rattle.input_file.specs.Decks.{deck, greatest_length};
 
 use crate::fault::NoMemory;
 use crate::keys::Keys;
+use crate::map::TextMap;
 use crate::print::print_header;
-use indexmap::IndexMap;
 use std::alloc::Global;
+use std::hash::BuildHasherDefault;
 use std::marker::Model;
 
 /// The blocks of an input file in the order in which they came, each with a list of keys with values.
 #[derive(Drop)]
 pub struct Deck {
-    blocks: IndexMap<String, Keys>,
+    blocks: TextMap<Keys>,
 }
 
 impl Model for Deck {
@@ -41,7 +43,7 @@ impl Deck {
         ensures { result ≡ [] }
     {
         Deck {
-            blocks: IndexMap::new(alloc),
+            blocks: TextMap::with_hasher(alloc, BuildHasherDefault::new()),
         }
     }
 
@@ -91,7 +93,8 @@ impl Deck {
         Ok(text.into_bytes())
     }
 
-    /// Sets the value of a key. A key that is there keeps its place, a new one goes last in its block, a new block last.
+    /// Sets the value of a key. A key that is there keeps its place, a new one goes last in its block, a new block
+    /// last.
     pub fn set(&mut self, block: &str, key: &str, value: &str) -> Result<(), NoMemory>
         requires block { IsTrue (is_block_name block.now) }
         requires key { IsTrue (is_key key.now) }
@@ -128,7 +131,8 @@ impl Deck {
         requires index { index < length self.old }
         requires key { IsTrue (is_key key.now) }
         requires value { IsTrue (is_value value.now) }
-        ensures ok { OnOk result (IfSome (name_at self.old index) (λ block. self.new ≡ set self.old block key.now value.now)) }
+        ensures ok { OnOk result (IfSome (name_at self.old index) (λ block. self.new
+            ≡ set self.old block key.now value.now)) }
         ensures name { name_at self.new index ≡ name_at self.old index }
         ensures err { OnErr result (self.new ≡ self.old) }
     {

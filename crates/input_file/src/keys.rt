@@ -8,15 +8,16 @@ ghost use Rattle.input_file.specs.Texts.{is_key, is_value};
 ghost use Rattle.input_file.specs.Printed.{setting_lines, text_of_lines};
 
 use crate::fault::NoMemory;
+use crate::map::TextMap;
 use crate::print::print_setting;
-use indexmap::IndexMap;
 use std::alloc::Global;
+use std::hash::BuildHasherDefault;
 use std::marker::Model;
 
 /// The keys of one block with their values, in the order in which they came.
 #[derive(Drop)]
 pub struct Keys {
-    map: IndexMap<String, String>,
+    map: TextMap<String>,
 }
 
 impl Model for Keys {
@@ -38,7 +39,7 @@ impl Keys {
         ensures { result ≡ [] }
     {
         Keys {
-            map: IndexMap::new(alloc),
+            map: TextMap::with_hasher(alloc, BuildHasherDefault::new()),
         }
     }
 
@@ -66,7 +67,8 @@ impl Keys {
 
     /// Appends the lines of the keys.
     pub fn print(&self, text: &mut String) -> Result<(), NoMemory>
-        ensures { OnOk result (string_bytes text.new ≡ string_bytes text.old ++ text_of_lines (setting_lines self.now)) }
+        ensures { OnOk result (string_bytes text.new
+            ≡ string_bytes text.old ++ text_of_lines (setting_lines self.now)) }
     {
         for i in 0..self.map.len() {
             let (key, value) = self.map.get_index(i).unwrap();

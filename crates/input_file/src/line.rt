@@ -1,7 +1,8 @@
 ghost use Rattle.std.specs.Prelude.{◌≡◌};
 ghost use Rattle.std.specs.List.{before_first};
 ghost use Rattle.input_file.specs.Texts.{is_hash};
-ghost use Rattle.input_file.specs.Lines.{IsFormed, cleaned, without_return, form_of, form_of_cleaned, header_form, header_if_named, setting_form, setting_if_formed};
+ghost use Rattle.input_file.specs.Lines.{IsFormed, cleaned, without_return, form_of, form_of_cleaned, header_form};
+ghost use Rattle.input_file.specs.Lines.{header_if_named, setting_form, setting_if_formed};
 ghost use Rattle.input_file.specs.SeenForm.{seen_form};
 
 use crate::text::{is_block_name, is_key, is_value, trim};

@@ -1,4 +1,4 @@
-ghost use Rattle.std.specs.Prelude.{◌≡◌, option_map, IfSome, IsTrue, OnErr};
+ghost use Rattle.std.specs.Prelude.{◌≡◌, None, Err, option_map, IfSome, IsTrue, OnErr};
 ghost use Rattle.input_file.specs.Texts.{is_block_name, is_key, is_value};
 ghost use Rattle.input_file.specs.Overrides.{override_of, override_around, override_if_formed, overridden};
 ghost use Rattle.input_file.specs.SeenOverride.{seen_override};
@@ -22,6 +22,7 @@ impl Deck {
     /// A word of another form is `BadOverride`. After a refusal the deck is as before.
     pub fn apply(&mut self, word: &str) -> Result<(), DeckFault>
         ensures answer { Answers (λ _. self.new) result (overridden self.old word.now) }
+        ensures malformed { override_of word.now ≡ None → result ≡ Err DeckFault.BadOverride }
         ensures unchanged { OnErr result (self.new ≡ self.old) }
     {
         match override_of(word) {

@@ -16,7 +16,8 @@ pub fn print_header(text: &mut String, name: &str) -> Result<(), NoMemory>
 
 /// Appends the line of a key and its value.
 pub fn print_setting(text: &mut String, key: &str, value: &str) -> Result<(), NoMemory>
-    ensures { OnOk result (string_bytes text.new ≡ string_bytes text.old ++ (setting_line key.now value.now ++ 10 ∷ [])) }
+    ensures { OnOk result (string_bytes text.new
+        ≡ string_bytes text.old ++ (setting_line key.now value.now ++ 10 ∷ [])) }
 {
     text.push_str(key)?;
     text.push_str(" =")?;

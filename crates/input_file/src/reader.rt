@@ -1,8 +1,8 @@
-ghost use Rattle.std.specs.Prelude.{◌≡◌, ◌≢◌, ◌+◌, ◌≤◌, Some, None, [], Err, length, IsTrue, IfErr, OnOk};
+ghost use Rattle.std.specs.Prelude.{◌≡◌, ◌≢◌, ◌+◌, ◌<◌, ◌≤◌, Some, None, [], Err, length, IsTrue, IfErr, OnOk};
 ghost use Rattle.input_file.specs.Texts.{is_block_name, is_key, is_value};
 ghost use Rattle.input_file.specs.Blocks.{with_block};
-ghost use Rattle.input_file.specs.Lines.{form_of};
-ghost use Rattle.input_file.specs.Decks.{after_form, after_setting, deck_of_text, deck};
+ghost use Rattle.input_file.specs.Lines.{form_of, malformed};
+ghost use Rattle.input_file.specs.Decks.{after_form, after_setting, deck_of_text, deck, greatest_length};
 ghost use Rattle.input_file.specs.Answers.{Answers};
 
 use crate::deck::Deck;
@@ -46,7 +46,8 @@ impl Reader {
 
     /// Reads one line, which is given without the LF at its end.
     fn read_line(&mut self, number: u32, line: &str) -> Result<(), DeckFault>
-        ensures { Answers (λ _. self.new) result (after_form number self.old (form_of line.now)) }
+        ensures answer { Answers (λ _. self.new) result (after_form number self.old (form_of line.now)) }
+        ensures malformed { form_of line.now ≡ malformed → result ≡ Err (DeckFault.Syntax number) }
     {
         match form_of(line) {
             LineForm::Blank => Ok(()),
@@ -88,6 +89,7 @@ impl Reader {
 pub fn parse(alloc: Global, bytes: &[u8]) -> Result<Deck, DeckFault>
     ensures answer { Answers (λ d. d) result (deck bytes.now) }
     ensures no_override { result ≢ Err DeckFault.BadOverride }
+    ensures too_long { greatest_length < length bytes.now → result ≡ Err DeckFault.TooLong }
 {
     if bytes.len() > GREATEST_LENGTH {
         return Err(DeckFault::TooLong);

@@ -3,7 +3,7 @@ use crate::{Deck, DeckFault, parse};
 use std::alloc::{AllocError, Global};
 use std::test::Fail;
 
-/// A realistic input, laid out after the framework's own.
+/// An input laid out as Parthenon's are.
 const TWO_DYES: &str = "# two dyes in a square, laid out after a Parthenon input
 <parthenon/job>
 problem_id = advection
@@ -90,6 +90,20 @@ fn many_keys(alloc: Global) -> Result<String, AllocError> {
     Ok(text)
 }
 
+/// The keys that many decks of this test repeat. Under the hash that maps have by default they all have one place.
+fn colliding_key(alloc: Global, number: u32) -> Result<String, AllocError> {
+    format!(in alloc; "k000000000004204)l`fdXZ\\{number:08}")
+}
+
+fn colliding_keys(alloc: Global) -> Result<String, AllocError> {
+    let mut text = String::from_str(alloc, "<m>\n")?;
+    for number in 0..30_000u32 {
+        let key = colliding_key(alloc, number)?;
+        writeln!(text, "{key}=")?;
+    }
+    Ok(text)
+}
+
 #[test]
 fn each_fault_has_its_place(rt: HostRuntime) {
     let rows: [(&[u8], DeckFault); 17] = [
@@ -157,7 +171,7 @@ fn other_words_are_no_overrides(rt: HostRuntime) {
 }
 
 #[test]
-fn a_realistic_input_is_read(rt: HostRuntime) -> Result<(), Fail> {
+fn an_input_as_parthenon_has_them_is_read(rt: HostRuntime) -> Result<(), Fail> {
     let deck = parse(rt.alloc(), TWO_DYES.as_bytes())?;
     let names = [
         "parthenon/job",
@@ -223,5 +237,20 @@ fn a_megabyte_is_read(rt: HostRuntime) -> Result<(), Fail> {
 fn a_block_of_many_keys_is_read(rt: HostRuntime) -> Result<(), Fail> {
     let text = many_keys(rt.alloc())?;
     assert!(rt; prints(rt.alloc(), text.as_bytes(), "m/k0=0", text.as_bytes())?);
+    Ok(())
+}
+
+#[test]
+fn keys_that_collide_under_a_common_hash_are_read(rt: HostRuntime) -> Result<(), Fail> {
+    let alloc = rt.alloc();
+    let text = colliding_keys(alloc)?;
+    let mut deck = parse(alloc, text.as_bytes())?;
+    let last = colliding_key(alloc, 29_999)?;
+    assert_eq!(rt; deck.get("m", last.as_str()), Some(""));
+    for number in 0..30_000u32 {
+        let word = format!(in alloc; "m/k000000000004204)l`fdXZ\\{number:08}=x")?;
+        deck.apply(word.as_str())?;
+    }
+    assert_eq!(rt; deck.get("m", last.as_str()), Some("x"));
     Ok(())
 }

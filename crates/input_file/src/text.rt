@@ -1,6 +1,8 @@
 ghost use Rattle.std.specs.Prelude.{◌≡◌, ◌<◌, length, IfNone, IfSome};
 ghost use Rattle.std.specs.List.{list_any};
-ghost use Rattle.input_file.specs.Texts.{trimmed, without_leading, without_trailing, is_trimmed, is_empty, is_block_name, is_key, is_value, is_barred, is_barred_in_block, is_barred_in_key};
+ghost use Rattle.input_file.specs.Texts.{trimmed, without_leading, without_trailing, is_trimmed, is_empty};
+ghost use Rattle.input_file.specs.Texts.{is_block_name, is_key, is_value, is_barred, is_barred_in_block};
+ghost use Rattle.input_file.specs.Texts.{is_barred_in_key};
 
 /// The text without the spaces and tabs at both ends.
 pub fn trim(text: &str) -> &str

@@ -150,15 +150,15 @@ input_after input outcome f a b c r fine w other = record {
   read_cause = λ is. absurd (other is);
   write_cause = λ is. rose_since _ _ _ r.writes_later (w.cause is);
   exact = λ e.
-    let P : Bool → Type 0 = IsTrue in
-    let Q : ℕ → Type 0 = λ n. Counts (outcome ≡ WriteFault) n c.write_faults in
-    let d = r.exact e in
-    let k = w.exact (subst P (sym r.is_exact) e) in
-    record {
-      reads = inr (other, k.reads input ∙ stands f _ _ d.reads fine);
-      others = λ name. inl (k.reads name ∙ stands_still f _ _ (d.others name) fine);
-      writes = subst Q d.writes k.writes;
-    };
+      let P : Bool → Type 0 = IsTrue in
+      let Q : ℕ → Type 0 = λ n. Counts (outcome ≡ WriteFault) n c.write_faults in
+      let d = r.exact e in
+      let k = w.exact (subst P (sym r.is_exact) e) in
+      record {
+        reads = inr (other, k.reads input ∙ stands f _ _ d.reads fine);
+        others = λ name. inl (k.reads name ∙ stands_still f _ _ (d.others name) fine);
+        writes = subst Q d.writes k.writes;
+      };
 }
 
 -- the counts of reads that failed where the outcome says so
@@ -177,12 +177,12 @@ no_input_after input outcome f a b r to from other = record {
   read_cause = λ is. r.cause (from is);
   write_cause = λ is. absurd (other is);
   exact = λ e.
-    let d = r.exact e in
-    record {
-      reads = counts_as f _ _ _ d.reads to from;
-      others = λ name. others_as f _ _ _ (d.others name) to;
-      writes = inr (other, d.writes);
-    };
+      let d = r.exact e in
+      record {
+        reads = counts_as f _ _ _ d.reads to from;
+        others = λ name. others_as f _ _ _ (d.others name) to;
+        writes = inr (other, d.writes);
+      };
 }
 
 pub fault_after : (input : List ℕ) (fault : InputFault) (outcome : Outcome) (a b : DepotSeen) → outcome ≡ outcome_of_fault fault → AfterReads input (◌≡◌ {A = Result Input InputFault} (Err fault) (Err input_fault.ReadFault)) a b → AfterInput input outcome a b

@@ -12,7 +12,8 @@ use Rattle.mesh_words.specs.declared.fault.UsageFault.TheVariants as usage_fault
 use Rattle.mesh_input.specs.declared.fault.InputFault.{InputFault}
 use Rattle.mesh_input.specs.declared.fault.InputFault.TheVariants as input_fault
 use Rattle.mesh_outcome.specs.declared.outcome.Outcome.{Outcome}
-use Rattle.mesh_outcome.specs.declared.outcome.Outcome.TheVariants.{Done, Listed, Usage, Refused, ReadFault, WriteFault, NoMemory}
+use Rattle.mesh_outcome.specs.declared.outcome.Outcome.TheVariants.{Done, Listed, Usage, Refused, ReadFault, WriteFault}
+use Rattle.mesh_outcome.specs.declared.outcome.Outcome.TheVariants.{NoMemory}
 use Rattle.mesh_driver.specs.Files.{end_of, files_of}
 use Rattle.mesh_cli.specs.Verdicts.{Verdict, runs, lists, refused, ComesTo}
 

@@ -1,6 +1,6 @@
 -- What a call of the program promises: how it ended, that this was told, and when each status comes.
 use Rattle.std.specs.Prelude.{◌≡◌, ℕ, ◌⊎◌, List, Option, Some, None, Result, Ok, Err, IsTrue}
-use Rattle.clap.specs.Words.{Text}
+use Rattle.input_file.specs.Texts.{Text}
 use Rattle.mesh_outside.specs.declared.files.File.{File}
 use Rattle.mesh_outside.specs.Depot.{DepotSeen}
 use Rattle.mesh_outside.specs.Fault.{Counts, Rose}
@@ -39,7 +39,8 @@ NamedRose (Ok arguments) before after = SourceRose arguments.source before after
 NamedRose (Err fault) before after = ⊥
 
 -- each status of a fault comes only where the count of such faults rose in the call
-pub record HasCauses (arguments : Result Arguments UsageFault) (answered : Status) (before after : Outside) : Type 0 where
+pub record HasCauses (arguments : Result Arguments UsageFault) (answered : Status)
+    (before after : Outside) : Type 0 where
   pub read : answered ≡ status.ReadFault → NamedRose arguments before.depot after.depot
   pub write : answered ≡ status.WriteFault → Rose before.depot.write_faults after.depot.write_faults
   pub print : answered ≡ status.PrintFault → Rose before.sink.faults after.sink.faults
@@ -98,8 +99,8 @@ Completes (Ok arguments) answered before after =
 Completes (Err fault) answered before after =
     (Rose before.sink.faults after.sink.faults → ⊥) → IsOrNoMemory status.Usage answered
 
--- a call with these words: it ended with an outcome, which was told; each fault has its cause, and where counts are exact each
--- count that rose is told; where none rose, it completed; and the inputs are as before
+-- a call with these words: it ended with an outcome, which was told; each fault has its cause, and where counts are
+-- exact each count that rose is told; where none rose, it completed; and the inputs are as before
 pub record Ends (words : List Text) (before after : Outside) (answered : Status) : Type 0 where
   pub outcome : Outcome
   pub ended : EndsWith (arguments_of words) outcome before.depot after.depot

@@ -18,11 +18,9 @@ pub fn mesh_plain<D: Depot, K: Sink>(
     out: &mut K,
 ) -> Status
     requires { ForSome (D.seen depot.old).written IsClosed }
-    ensures {
-        let before = outside (D.seen depot.old) (K.seen out.old) in
+    ensures { let before = outside (D.seen depot.old) (K.seen out.old) in
         let after = outside (D.seen depot.new) (K.seen out.new) in
-        Ends (map string_bytes words.now) before after result
-    }
+        Ends (map string_bytes words.now) before after result }
 {
     let outcome = outcome_of(alloc, words, depot);
     report(alloc, &outcome, out)

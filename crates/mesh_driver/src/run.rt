@@ -33,9 +33,11 @@ pub fn drive<D: Depot>(
 ) -> Result<RunEnd, DriveFault>
     requires built { is_built (settings_of problem.now) ≡ true }
     requires closed { ForSome (D.seen depot.old).written IsClosed }
-    ensures ok { OnOk result (Gains (D.seen depot.old).written (D.seen depot.new).written (files_of (settings_of problem.now) prefix.now)) }
+    ensures ok { OnOk result (Gains (D.seen depot.old).written (D.seen depot.new).written (files_of
+        (settings_of problem.now) prefix.now)) }
     ensures end { IfOk result (λ end. end ≡ end_of (settings_of problem.now)) }
-    ensures err { OnErr result (GainsPrefix (D.seen depot.old).written (D.seen depot.new).written (files_of (settings_of problem.now) prefix.now)) }
+    ensures err { OnErr result (GainsPrefix (D.seen depot.old).written (D.seen depot.new).written (files_of
+        (settings_of problem.now) prefix.now)) }
     ensures after { AfterWrites (result ≡ Err DriveFault.WriteFault) (D.seen depot.old) (D.seen depot.new) }
 {
     let mut run = DenseRun::start(alloc, problem)?;
@@ -62,8 +64,10 @@ fn advance<'a, D: Depot>(
     requires unfinished { run.old.cycle < run.old.problem.nlim }
     requires closed { ForSome (D.seen depot.old).written IsClosed }
     ensures next { run.new ≡ record run.old { cycle = run.old.cycle + 1 } }
-    ensures ok { OnOk result (Gains (D.seen depot.old).written (D.seen depot.new).written (files_at (settings_of problem.now) prefix.now (run.old.cycle + 1))) }
-    ensures err { OnErr result (GainsPrefix (D.seen depot.old).written (D.seen depot.new).written (files_at (settings_of problem.now) prefix.now (run.old.cycle + 1))) }
+    ensures ok { OnOk result (Gains (D.seen depot.old).written (D.seen depot.new).written (files_at
+        (settings_of problem.now) prefix.now (run.old.cycle + 1))) }
+    ensures err { OnErr result (GainsPrefix (D.seen depot.old).written (D.seen depot.new).written (files_at
+        (settings_of problem.now) prefix.now (run.old.cycle + 1))) }
     ensures after { AfterWrites (result ≡ Err DriveFault.WriteFault) (D.seen depot.old) (D.seen depot.new) }
 {
     let _ = run.cycle();
@@ -82,8 +86,10 @@ fn write_dump<'a, D: Depot>(
     depot: &mut D,
 ) -> Result<(), DriveFault>
     requires { ForSome (D.seen depot.old).written IsClosed }
-    ensures ok { OnOk result (Gains (D.seen depot.old).written (D.seen depot.new).written (dump_of run.now.problem prefix.now run.now.cycle ∷ [])) }
-    ensures err { OnErr result (GainsPrefix (D.seen depot.old).written (D.seen depot.new).written (dump_of run.now.problem prefix.now run.now.cycle ∷ [])) }
+    ensures ok { OnOk result (Gains (D.seen depot.old).written (D.seen depot.new).written
+        (dump_of run.now.problem prefix.now run.now.cycle ∷ [])) }
+    ensures err { OnErr result (GainsPrefix (D.seen depot.old).written (D.seen depot.new).written
+        (dump_of run.now.problem prefix.now run.now.cycle ∷ [])) }
     ensures after { AfterWrites (result ≡ Err DriveFault.WriteFault) (D.seen depot.old) (D.seen depot.new) }
 {
     let name = dump_file_name(alloc, prefix, run.cycles())?;

@@ -15,7 +15,8 @@ HasInput None name bytes = Unit {0}
 HasInput (Some files) name bytes = input_of files name ≡ Some bytes
 
 -- this is what the file of this name gives with the overrides
-pub record Gives (inputs : Option (List File)) (name : List ℕ) (overrides : List Text) (given : Result SeenInput Refusal) : Type 0 where
+pub record Gives (inputs : Option (List File)) (name : List ℕ) (overrides : List Text)
+    (given : Result SeenInput Refusal) : Type 0 where
   pub bytes : List ℕ
   pub are_there : HasInput inputs name bytes
   pub given_is : accepted_input bytes overrides ≡ given

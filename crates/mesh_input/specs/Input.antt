@@ -39,7 +39,8 @@ or_problem_fault (Err fault) = Err (Problem fault)
 -- a deck with overrides in their order, where the first has this number; the first word that is none decides
 abbrev pub overridden_by : ℕ → Blocks → List Text → Result Blocks Refusal
 overridden_by number d [] = Ok d
-overridden_by number d (word ∷ words) = and_then (or_override_fault number (overridden d word)) (λ e. overridden_by (number + 1) e words)
+overridden_by number d (word ∷ words) =
+    and_then (or_override_fault number (overridden d word)) (λ e. overridden_by (number + 1) e words)
 
 -- the deck of bytes
 abbrev pub deck_read : List ℕ → Result Blocks Refusal

@@ -18,5 +18,4 @@ pub mod Reactions
 pub mod StoredCells
 pub mod Drops
 pub mod RemapMeshes
-pub mod Kernels
 pub mod StoppedFiles

@@ -1,13 +1,13 @@
 -- A mesh that was filled, and one on another balanced tree, are meshes.
-use Rattle.std.proofs.Common.{◌≡◌, ℕ, Bool, List, [], refl, ap, sym, ◌∙◌, subst}
+use Rattle.std.proofs.Common.{◌≡◌, ℕ, Bool, ap, sym, subst}
 use Rattle.std.proofs.Math.Path.{fun_ext}
 use Rattle.morton_order.specs.declared.space.Loc.{Loc}
-use Rattle.block_tree.specs.Tree.{IsBalanced, IsTree, is_listed}
-use Rattle.block_tree.specs.Leaves.{inner_of, leaves_of}
+use Rattle.block_tree.specs.Tree.{IsBalanced, IsTree}
+use Rattle.block_tree.specs.Leaves.{leaves_of}
 use Rattle.block_tree.proofs.InnerList.{inners_are_listed}
 use Rattle.mesh_rules.specs.Mesh.{IsMesh, Mesh, filled, is_inner}
 use Rattle.mesh_rules.specs.Remesh.{remap}
-use Rattle.mesh_laws.specs.RemapLaws.{IsRemapped, RemapIsMesh}
+use Rattle.mesh_laws.specs.RemapLaws.{RemapIsMesh}
 
 -- other totals on the same tree
 pub filled_is_mesh : (m : Mesh) (fields : ℕ) (each : ℕ → Loc → ℕ) → IsMesh m → IsMesh (filled m fields each)

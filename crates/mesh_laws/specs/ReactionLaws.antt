@@ -1,11 +1,9 @@
 -- What a reaction keeps, by any kernel.
-use Rattle.std.specs.Prelude.{◌≡◌, ℕ, ◌+◌, ◌<◌, ◌≤◌, List, All, length}
+use Rattle.std.specs.Prelude.{◌≡◌, ℕ, ◌+◌, ◌<◌, List}
 use Rattle.package_fields.specs.Kernel.{KernelLaws, Reacted}
-use Rattle.problem_set.specs.SoundEntries.{IsReaction}
-use Rattle.problem_set.specs.declared.entries.Reaction.{Reaction}
 use Rattle.mesh_rules.specs.Sums.{sum_to}
 use Rattle.mesh_rules.specs.Mesh.{IsMesh, Mesh, total_of}
-use Rattle.mesh_rules.specs.Reaction.{made_of, react_cell, react_mesh, used_of}
+use Rattle.mesh_rules.specs.Reaction.{made_of, react_mesh, used_of}
 
 -- the sum over the fields is kept
 abbrev pub ReactionKeepsSum : Type 0
@@ -16,7 +14,3 @@ ReactionKeepsSum = (react : List ℕ → Reacted) (fields : ℕ) (m : Mesh) → 
 abbrev pub ReactionBalances : Type 0
 ReactionBalances = (react : List ℕ → Reacted) (fields f : ℕ) (m : Mesh) → IsMesh m → KernelLaws fields react → f < fields →
     total_of (react_mesh react fields m) f + used_of react fields m f ≡ total_of m f + made_of react fields m f
-
--- at most 256 reactions of some fields are a kernel of these fields
-abbrev pub ReactionsAreKernel : Type 0
-ReactionsAreKernel = (reactions : List Reaction) (fields : ℕ) → length reactions ≤ 256 → All (IsReaction fields) reactions → KernelLaws fields (react_cell reactions)

@@ -4,7 +4,7 @@ ghost use Rattle.mesh_laws.specs.DropLaws.{CutLaw, DropsAreWhatWasCut};
 ghost use Rattle.mesh_laws.specs.FileLaws.{FilesOfStopped, NoFilesAtStart};
 ghost use Rattle.mesh_laws.specs.LookLaws.{LookLaw, LooksAddUp};
 ghost use Rattle.mesh_laws.specs.PayLaws.{NothingFromNothing, PaysAtMost};
-ghost use Rattle.mesh_laws.specs.ReactionLaws.{ReactionBalances, ReactionKeepsSum, ReactionsAreKernel};
+ghost use Rattle.mesh_laws.specs.ReactionLaws.{ReactionBalances, ReactionKeepsSum};
 ghost use Rattle.mesh_laws.specs.RemapLaws.{RemapIsMesh, RemapKeepsTotals};
 ghost use Rattle.mesh_laws.specs.StageLaws.{StageConserves};
 
@@ -35,12 +35,10 @@ pub fn remap_laws()
     ensures mesh { RemapIsMesh }
 {}
 
-/// By any kernel a reaction keeps the sum over the fields, and a field's total changes by what is made and used of it; a
-/// problem's reactions are a kernel.
+/// By any kernel a reaction keeps the sum over the fields, and a field's total changes by what is made and used of it.
 pub fn reaction_laws()
     ensures sum { ReactionKeepsSum }
     ensures balance { ReactionBalances }
-    ensures kernel { ReactionsAreKernel }
 {}
 
 /// A field that stays on a leaf keeps its totals there, any other is made zero, and what is dropped is exactly that.

@@ -6,4 +6,6 @@
 
 mod laws;
 
-pub use laws::{conservation_law, drop_laws, file_laws, look_laws, pay_laws, reaction_laws, remap_laws};
+pub use laws::{
+    conservation_law, drop_laws, file_laws, look_laws, pay_laws, reaction_laws, remap_laws,
+};

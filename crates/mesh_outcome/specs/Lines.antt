@@ -12,7 +12,8 @@ line text = text ++ 10 ∷ []
 
 -- how the run ended
 abbrev pub done_words : ℕ → ℕ → ℕ → List ℕ
-done_words cycles blocks total = codes "done cycles=" ++ (decimal cycles ++ (codes " blocks=" ++ (decimal blocks ++ (codes " total=" ++ decimal total))))
+done_words cycles blocks total = codes "done cycles=" ++ (decimal cycles ++ (codes " blocks=" ++ (decimal blocks ++
+    (codes " total=" ++ decimal total))))
 
 -- all that is printed: one line, or the deck
 abbrev pub text_of : Outcome → List ℕ

@@ -25,10 +25,12 @@ Prints text own status old new = PrintsAll text own status old new ⊎ PrintsPar
 
 -- what is told of an outcome: its own text, or that no memory was left for that
 abbrev pub Tells : Outcome → Status → Option (List ℕ) → Option (List ℕ) → Type 0
-Tells outcome status old new = Prints (text_of outcome) (status_of outcome) status old new ⊎ Prints (line (codes "no memory")) NoMemory status old new
+Tells outcome status old new = Prints (text_of outcome) (status_of outcome) status old new
+    ⊎ Prints (line (codes "no memory")) NoMemory status old new
 
 -- after the text of a status was printed: the count of failed prints did not fall, and rose where the status is that of
--- printing; where the sink counts exactly, it rose there alone; and where the sink takes no memory, no other status comes
+-- printing; where the sink counts exactly, it rose there alone; and where the sink takes no memory, no other status
+-- comes
 pub record AfterText (own status : Status) (old new : SinkSeen) : Type 0 where
   pub later : old.faults ≤ new.faults
   pub cause : status ≡ PrintFault → Rose old.faults new.faults

@@ -48,7 +48,8 @@ place_words block key = block ++ (codes " " ++ key)
 abbrev pub problem_words : ProblemFault → List ℕ
 problem_words (problem_fault.Missing block name) = codes "missing " ++ place_words block name
 problem_words (problem_fault.BadValue block name) = codes "value " ++ place_words block name
-problem_words (problem_fault.Limit block name value) = codes "limit " ++ (block ++ (codes " " ++ (name ++ (codes " = " ++ signed_decimal value))))
+problem_words (problem_fault.Limit block name value) = codes "limit " ++ (block ++ (codes " " ++ (name ++
+    (codes " = " ++ signed_decimal value))))
 problem_words (problem_fault.Rates label total) = codes "rates " ++ (label ++ (codes " sum " ++ decimal total))
 problem_words (problem_fault.Bound total) = codes "bound " ++ decimal total
 problem_words (problem_fault.Fields fault) = field_words fault

@@ -1,7 +1,8 @@
 -- The numbers that the program ends with.
 use Rattle.std.specs.Prelude.{ℕ}
 use Rattle.mesh_outcome.specs.declared.status.Status.{Status}
-use Rattle.mesh_outcome.specs.declared.status.Status.TheVariants.{Done, Usage, Refused, ReadFault, WriteFault, NoMemory, PrintFault}
+use Rattle.mesh_outcome.specs.declared.status.Status.TheVariants.{Done, Usage, Refused, ReadFault, WriteFault, NoMemory}
+use Rattle.mesh_outcome.specs.declared.status.Status.TheVariants.{PrintFault}
 
 -- one number for each status; 6 is that of too many blocks
 abbrev pub code_of : Status → ℕ

@@ -9,8 +9,8 @@ use mesh_input::Refusal;
 use mesh_num::NoMemory;
 use std::alloc::Global;
 
-/// What is printed of an outcome: its line, or the text of the deck that is listed. A line of no number and no name takes no
-/// memory.
+/// What is printed of an outcome: its line, or the text of the deck that is listed. A line of no number and no name
+/// takes no memory.
 pub fn text_of(alloc: Global, outcome: &Outcome) -> Result<Text, NoMemory>
     ensures text { IfOk result (λ text. bytes_of text ≡ text_of outcome.now) }
     ensures fixed { IsFixed outcome.now → IsOk result }

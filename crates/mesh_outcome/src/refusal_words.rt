@@ -2,7 +2,8 @@
 ghost use Rattle.std.specs.Prelude.{◌≡◌, ◌++◌, codes, IfOk, string_bytes};
 ghost use Rattle.std.specs.Fmt.{decimal, signed_decimal};
 ghost use Rattle.mesh_outcome.specs.Lines.{line};
-ghost use Rattle.mesh_outcome.specs.RefusalWords.{deck_words, field_words, place_words, problem_words, refusal_words, usage_words};
+ghost use Rattle.mesh_outcome.specs.RefusalWords.{deck_words, field_words, place_words, problem_words, refusal_words};
+ghost use Rattle.mesh_outcome.specs.RefusalWords.{usage_words};
 
 use input_file::DeckFault;
 use mesh_input::Refusal;
@@ -89,13 +90,15 @@ fn value_words(alloc: Global, block: &str, name: &str) -> Result<String, NoMemor
 }
 
 fn limit_words(alloc: Global, block: &str, name: &str, value: i128) -> Result<String, NoMemory>
-    ensures { IfOk result (λ text. string_bytes text ≡ codes "limit " ++ (block.now ++ (codes " " ++ (name.now ++ (codes " = " ++ signed_decimal value))))) }
+    ensures { IfOk result (λ text. string_bytes text
+        ≡ codes "limit " ++ (block.now ++ (codes " " ++ (name.now ++ (codes " = " ++ signed_decimal value))))) }
 {
     Ok(format!(in alloc; "limit {block} {name} = {value}")?)
 }
 
 fn rates_words(alloc: Global, label: &str, sum: u64) -> Result<String, NoMemory>
-    ensures { IfOk result (λ text. string_bytes text ≡ codes "rates " ++ (label.now ++ (codes " sum " ++ decimal sum))) }
+    ensures { IfOk result (λ text. string_bytes text
+        ≡ codes "rates " ++ (label.now ++ (codes " sum " ++ decimal sum))) }
 {
     Ok(format!(in alloc; "rates {label} sum {sum}")?)
 }

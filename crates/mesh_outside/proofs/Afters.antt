@@ -28,14 +28,14 @@ reads_then name f g h a b c p fine q to from = record {
   writes_later = omega (arith, p.writes_later, q.writes_later);
   cause = λ x. rose_since _ _ _ (p.reads_later name) (q.cause (from x));
   exact = λ e.
-    let d = p.exact e in
-    let P : Bool → Type 0 = IsTrue in
-    let k = q.exact (subst P (sym p.is_exact) e) in
-    record {
-      reads = counts_then f g h _ _ _ d.reads fine k.reads to from;
-      others = λ other. other_then f g h _ _ _ (d.others other) fine (k.others other) to;
-      writes = k.writes ∙ d.writes;
-    };
+      let d = p.exact e in
+      let P : Bool → Type 0 = IsTrue in
+      let k = q.exact (subst P (sym p.is_exact) e) in
+      record {
+        reads = counts_then f g h _ _ _ d.reads fine k.reads to from;
+        others = λ other. other_then f g h _ _ _ (d.others other) fine (k.others other) to;
+        writes = k.writes ∙ d.writes;
+      };
 }
 
 -- no reads
@@ -59,13 +59,13 @@ writes_then f g h a b c p fine q to from = record {
   writes_later = omega (arith, p.writes_later, q.writes_later);
   cause = λ x. rose_since _ _ _ p.writes_later (q.cause (from x));
   exact = λ e.
-    let d = p.exact e in
-    let P : Bool → Type 0 = IsTrue in
-    let k = q.exact (subst P (sym p.is_exact) e) in
-    record {
-      reads = λ name. k.reads name ∙ d.reads name;
-      writes = counts_then f g h _ _ _ d.writes fine k.writes to from;
-    };
+      let d = p.exact e in
+      let P : Bool → Type 0 = IsTrue in
+      let k = q.exact (subst P (sym p.is_exact) e) in
+      record {
+        reads = λ name. k.reads name ∙ d.reads name;
+        writes = counts_then f g h _ _ _ d.writes fine k.writes to from;
+      };
 }
 
 -- no writes

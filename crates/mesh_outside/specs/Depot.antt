@@ -1,13 +1,14 @@
 -- What contracts see of a depot, and what its calls say of it.
-use Rattle.std.specs.Prelude.{◌≡◌, ℕ, ◌≤◌, ◌⊎◌, Bool, List, ◌++◌, length, take, drop, Option, Some, None, Result, IfOk, OnOk, IsTrue}
+use Rattle.std.specs.Prelude.{◌≡◌, ℕ, ◌≤◌, ◌⊎◌, Bool, List, ◌++◌, length, take, drop, Option, Some, None, Result, IfOk}
+use Rattle.std.specs.Prelude.{OnOk, IsTrue}
 use Rattle.mesh_outside.specs.declared.fault.OutFault.{OutFault}
 use Rattle.mesh_outside.specs.declared.files.File.{File}
 use Rattle.mesh_outside.specs.declared.files.Gained.{Gained}
 use Rattle.mesh_outside.specs.Fault.{Counts, Rose}
 use Rattle.mesh_outside.specs.Files.{input_of}
 
--- its inputs and the files gained so far, where it tells them; how many reads of each name and how many writes have failed;
--- and whether it counts exactly
+-- its inputs and the files gained so far, where it tells them; how many reads of each name and how many writes have
+-- failed; and whether it counts exactly
 pub record DepotSeen : Type 0 where
   pub inputs : Option (List File)
   pub written : Option (List Gained)
@@ -15,8 +16,8 @@ pub record DepotSeen : Type 0 where
   pub write_faults : ℕ
   pub is_exact : Bool
 
--- where a depot counts exactly, reads of this name are counted one more where they failed; those of another name at most
--- then; and no write is counted
+-- where a depot counts exactly, reads of this name are counted one more where they failed; those of another name at
+-- most then; and no write is counted
 pub record CountsReads (name : List ℕ) (failed : Type 0) (old new : DepotSeen) : Type 0 where
   pub reads : Counts failed (old.read_faults name) (new.read_faults name)
   pub others : (other : List ℕ) → (new.read_faults other ≡ old.read_faults other) ⊎ failed

@@ -25,4 +25,10 @@ opening = record { reading = None; is_writing = false; failed_reads = 0; failed_
 
 -- the depot as any: it tells nothing of content, and counts exactly; a failed read counts for every name
 abbrev pub seen_files : FileState → DepotSeen
-seen_files d = record { inputs = None; written = None; read_faults = λ name. d.failed_reads; write_faults = d.failed_writes; is_exact = true }
+seen_files d = record {
+  inputs = None;
+  written = None;
+  read_faults = λ name. d.failed_reads;
+  write_faults = d.failed_writes;
+  is_exact = true;
+}

@@ -1,5 +1,6 @@
 -- Files that a depot gains: begun, appended to and finished, one at a time.
-use Rattle.std.specs.Prelude.{◌≡◌, ℕ, ◌-◌, ◌⊎◌, Bool, true, false, List, [], ◌∷◌, ◌++◌, length, take, drop, map, Option, All, IsTrue}
+use Rattle.std.specs.Prelude.{◌≡◌, ℕ, ◌-◌, ◌⊎◌, Bool, true, false, List, [], ◌∷◌, ◌++◌, length, take, drop, map, Option}
+use Rattle.std.specs.Prelude.{All, IsTrue}
 use Rattle.std.specs.Option.{option_map}
 use Rattle.mesh_outside.specs.declared.files.Gained.{Gained}
 
@@ -63,8 +64,8 @@ pub record AreFirstAndPart (files gained : List Gained) : Type 0 where
   pub gained_are : gained ≡ first ++ part ∷ []
   pub files_are : files ≡ first ++ file ∷ others
 
--- what is there of these files where writing stopped: a prefix of them, the last one perhaps unfinished, and never all of them
--- finished
+-- what is there of these files where writing stopped: a prefix of them, the last one perhaps unfinished, and never all
+-- of them finished
 abbrev pub IsPrefix : List Gained → List Gained → Type 0
 IsPrefix files gained = AreFirst files gained ⊎ AreFirstAndPart files gained
 

@@ -29,7 +29,19 @@ pub record MemState : Type 0 where
 
 -- a depot of which no call was made
 abbrev pub opening : List File → ℕ → List Fail → MemState
-opening inputs piece fails = record { inputs = inputs; piece = piece; fails = fails; written = []; reads = 0; begins = 0; finishes = 0; is_fresh = false; failed_reads = 0; absent_reads = 0; failed_writes = 0 }
+opening inputs piece fails = record {
+  inputs = inputs;
+  piece = piece;
+  fails = fails;
+  written = [];
+  reads = 0;
+  begins = 0;
+  finishes = 0;
+  is_fresh = false;
+  failed_reads = 0;
+  absent_reads = 0;
+  failed_writes = 0;
+}
 
 -- a call answers that it failed exactly for this cause
 pub record FailsExactly {T : Type 0} (result : Result T OutFault) (cause : Type 0) : Type 0 where
@@ -42,14 +54,23 @@ piece_of most bytes from room = min most (min room (length bytes - from))
 
 -- the failed reads of a name: those that were to fail, and of an absent name also those of absent names
 abbrev pub read_faults_of : MemState → List ℕ → ℕ
-read_faults_of d name = option_map_or (λ bytes. d.failed_reads) (input_of d.inputs name) (d.failed_reads + d.absent_reads)
+read_faults_of d name = option_map_or (λ bytes. d.failed_reads) (input_of d.inputs name)
+    (d.failed_reads + d.absent_reads)
 
 -- the depot as any
 abbrev pub seen_mem : MemState → DepotSeen
-seen_mem d = record { inputs = Some d.inputs; written = Some d.written; read_faults = read_faults_of d; write_faults = d.failed_writes; is_exact = true }
+seen_mem d = record {
+  inputs = Some d.inputs;
+  written = Some d.written;
+  read_faults = read_faults_of d;
+  write_faults = d.failed_writes;
+  is_exact = true;
+}
 
--- the two counters of failed reads after a read of this name: that of the reads that were to fail, or that of absent names, is
--- the next one where the read failed, and else both are as before
+-- the two counters of failed reads after a read of this name: that of the reads that were to fail, or that of absent
+-- names, is the next one where the read failed, and else both are as before
 pub record CountsRead {T : Type 0} (name : List ℕ) (result : Result T OutFault) (old new : MemState) : Type 0 where
-  pub told : Contains old.fails (Read (next old.reads)) → (new.failed_reads ≡ next old.failed_reads) × (new.absent_reads ≡ old.absent_reads)
-  pub untold : (Contains old.fails (Read (next old.reads)) → ⊥) → (new.failed_reads ≡ old.failed_reads) × (new.absent_reads ≡ counted result old.absent_reads)
+  pub told : Contains old.fails (Read (next old.reads))
+      → (new.failed_reads ≡ next old.failed_reads) × (new.absent_reads ≡ old.absent_reads)
+  pub untold : (Contains old.fails (Read (next old.reads)) → ⊥)
+      → (new.failed_reads ≡ old.failed_reads) × (new.absent_reads ≡ counted result old.absent_reads)

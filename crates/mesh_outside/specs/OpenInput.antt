@@ -7,4 +7,5 @@ behind from count = min (from + count) (2 ^ 64 - 1)
 
 -- a file that stood at its start was moved to a place, if that is another
 abbrev pub IsMoved : {F : Type 0} → (F → Option ℕ) → ℕ → F → F → Type 0
-IsMoved position from old new = (from ≡ 0 → new ≡ old) × (from ≢ 0 → IfSome (position old) (λ at. position new ≡ Some from))
+IsMoved position from old new = (from ≡ 0 → new ≡ old) × (from ≢ 0
+    → IfSome (position old) (λ at. position new ≡ Some from))

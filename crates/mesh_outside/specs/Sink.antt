@@ -5,8 +5,8 @@ use Rattle.mesh_outside.specs.declared.fault.OutFault.{OutFault}
 use Rattle.mesh_outside.specs.declared.fault.OutFault.TheVariants.{Failed, NoMemory}
 use Rattle.mesh_outside.specs.Fault.{Counts, Rose}
 
--- what was printed so far, where it tells it; how many calls have failed; whether it counts exactly; and whether it takes
--- no memory
+-- what was printed so far, where it tells it; how many calls have failed; whether it counts exactly; and whether it
+-- takes no memory
 pub record SinkSeen : Type 0 where
   pub printed : Option (List ℕ)
   pub faults : ℕ

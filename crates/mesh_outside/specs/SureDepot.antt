@@ -23,4 +23,10 @@ read_faults_of d name = option_map_or (λ bytes. 0) (input_of d.inputs name) d.a
 
 -- the depot as any
 abbrev pub seen_sure : SureState → DepotSeen
-seen_sure d = record { inputs = Some d.inputs; written = Some d.written; read_faults = read_faults_of d; write_faults = 0; is_exact = true }
+seen_sure d = record {
+  inputs = Some d.inputs;
+  written = Some d.written;
+  read_faults = read_faults_of d;
+  write_faults = 0;
+  is_exact = true;
+}

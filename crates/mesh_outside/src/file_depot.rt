@@ -1,4 +1,5 @@
-ghost use Rattle.std.specs.Prelude.{◌≡◌, ◌≤◌, true, false, length, Ok, Some, None, Err, IsTrue, is_some, is_ok, IfOk, OnOk, OnErr, IfSome, take, option_map};
+ghost use Rattle.std.specs.Prelude.{◌≡◌, ◌≤◌, true, false, length, Ok, Some, None, Err, IsTrue, is_some, is_ok, IfOk};
+ghost use Rattle.std.specs.Prelude.{OnOk, OnErr, IfSome, take, option_map};
 ghost use Rattle.std.specs.Io.KnownBytes.{Appends};
 ghost use Rattle.mesh_outside.specs.Depot.{AfterReads, AfterWrites};
 ghost use Rattle.mesh_outside.specs.Gained.{begun, appended, finished, AppendsPrefix};
@@ -35,7 +36,14 @@ impl<'a, R: FileSystem> Model for FileDepot<'a, R> {
 
     ghost Value = { FileState };
 
-    ghost view = { λ d. record { reading = option_map (λ input. read_to (take input.length input.name) input.place) d.reading; is_writing = is_some d.writing; failed_reads = d.failed_reads; failed_writes = d.failed_writes } };
+    ghost view = { λ d. record {
+      reading =
+          option_map (λ input. read_to (take input.length input.name) input.place) d.reading;
+      is_writing =
+          is_some d.writing;
+      failed_reads = d.failed_reads;
+      failed_writes = d.failed_writes;
+    } };
 }
 
 impl<'a, R: FileSystem> FileDepot<'a, R> {
@@ -71,7 +79,8 @@ impl<'a, R: FileSystem> Depot for FileDepot<'a, R> {
     }
 
     fn begin(&mut self, name: &str) -> Result<(), OutFault>
-        ensures ok { OnOk result ((seen_files self.new).written ≡ option_map (begun name.now) (seen_files self.old).written) }
+        ensures ok { OnOk result ((seen_files self.new).written
+            ≡ option_map (begun name.now) (seen_files self.old).written) }
         ensures err { OnErr result ((seen_files self.new).written ≡ (seen_files self.old).written) }
         ensures open { self.new.is_writing ≡ is_ok result }
         ensures memory { result ≡ Err OutFault.NoMemory → ⊥ }
@@ -84,16 +93,15 @@ impl<'a, R: FileSystem> Depot for FileDepot<'a, R> {
     }
 
     fn append(&mut self, bytes: &[u8]) -> Result<(), OutFault>
-        ensures ok { OnOk result ((seen_files self.new).written ≡ option_map (appended bytes.now) (seen_files self.old).written) }
-        ensures err { OnErr result (AppendsPrefix bytes.now (seen_files self.old).written (seen_files self.new).written) }
+        ensures ok { OnOk result ((seen_files self.new).written
+            ≡ option_map (appended bytes.now) (seen_files self.old).written) }
+        ensures err { OnErr result (AppendsPrefix bytes.now (seen_files self.old).written
+            (seen_files self.new).written) }
         ensures open { self.new.is_writing ≡ self.old.is_writing }
         ensures memory { result ≡ Err OutFault.NoMemory → ⊥ }
         ensures after { AfterWrites (result ≡ Err OutFault.Failed) (seen_files self.old) (seen_files self.new) }
     {
-        counted(
-            append_to(&mut self.writing, bytes),
-            &mut self.failed_writes,
-        )
+        counted(append_to(&mut self.writing, bytes), &mut self.failed_writes)
     }
 
     fn finish(&mut self) -> Result<(), OutFault>
@@ -107,7 +115,8 @@ impl<'a, R: FileSystem> Depot for FileDepot<'a, R> {
     }
 }
 
-// Reads the bytes of a file from a place on: of the open one, if it is this and stands there, else of one that is opened.
+// Reads the bytes of a file from a place on: of the open one, if it is this and stands there, else of one that is
+// opened.
 fn read_at<R: FileSystem>(
     system: &R,
     reading: &mut Option<OpenInput<R::File>>,
@@ -116,7 +125,8 @@ fn read_at<R: FileSystem>(
     into: &mut [u8],
 ) -> io::Result<usize>
     ensures within { IfOk result (λ count. count ≤ length into.old) }
-    ensures place { IfOk result (λ count. option_map (λ input. read_to (take input.length input.name) input.place) reading.new ≡ Some (read_to name.now (behind from count))) }
+    ensures place { IfOk result (λ count. option_map (λ input. read_to
+        (take input.length input.name) input.place) reading.new ≡ Some (read_to name.now (behind from count))) }
 {
     if !is_at(reading, name, from) {
         *reading = None;
@@ -130,7 +140,8 @@ fn read_at<R: FileSystem>(
 
 // Whether the file of a name is open, and was read up to a place.
 fn is_at<F>(reading: &Option<OpenInput<F>>, name: &str, from: u64) -> bool
-    ensures { IsTrue result → option_map (λ input. read_to (take input.length input.name) input.place) reading.now ≡ Some (read_to name.now from) }
+    ensures { IsTrue result → option_map (λ input. read_to (take input.length input.name) input.place) reading.now
+        ≡ Some (read_to name.now from) }
 {
     match reading {
         Some(input) => input.is_at(name, from),
@@ -151,7 +162,8 @@ fn begin_in<F: Drop>(writing: &mut Option<F>, created: io::Result<F>) -> io::Res
 
 // Writes all bytes to the file that is written, and fails where there is none.
 fn append_to<F: Write>(writing: &mut Option<F>, bytes: &[u8]) -> io::Result<()>
-    ensures bytes { OnOk result (IfSome writing.old (λ f. IfSome writing.new (λ g. Appends (F.contents f) (F.contents g) bytes.now))) }
+    ensures bytes { OnOk result (IfSome writing.old (λ f. IfSome writing.new (λ g. Appends (F.contents f)
+        (F.contents g) bytes.now))) }
     ensures open { is_some writing.new ≡ is_some writing.old }
 {
     match writing {

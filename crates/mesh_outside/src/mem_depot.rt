@@ -1,4 +1,5 @@
-ghost use Rattle.std.specs.Prelude.{◌≡◌, ℕ, ◌≤◌, ◌/◌, ◌⊎◌, length, take, true, false, Some, None, Contains, Err, IsTrue, IsErr, OnOk, OnErr, IfOk};
+ghost use Rattle.std.specs.Prelude.{◌≡◌, ℕ, ◌≤◌, ◌/◌, ◌⊎◌, length, take, true, false, Some, None, Contains, Err};
+ghost use Rattle.std.specs.Prelude.{IsTrue, IsErr, OnOk, OnErr, IfOk};
 ghost use Rattle.std.specs.Option.{ForSome};
 ghost use Rattle.mesh_outside.specs.Depot.{AfterReads, AfterWrites, Reads};
 ghost use Rattle.mesh_outside.specs.Fault.{counted, next};
@@ -34,7 +35,19 @@ impl Model for MemDepot {
 
     ghost Value = { MemState };
 
-    ghost view = { λ d. record { inputs = d.inputs; piece = d.piece; fails = d.fails; written = d.written; reads = d.reads; begins = d.begins; finishes = d.finishes; is_fresh = d.is_fresh; failed_reads = d.failed_reads; absent_reads = d.absent_reads; failed_writes = d.failed_writes } };
+    ghost view = { λ d. record {
+      inputs = d.inputs;
+      piece = d.piece;
+      fails = d.fails;
+      written = d.written;
+      reads = d.reads;
+      begins = d.begins;
+      finishes = d.finishes;
+      is_fresh = d.is_fresh;
+      failed_reads = d.failed_reads;
+      absent_reads = d.absent_reads;
+      failed_writes = d.failed_writes;
+    } };
 
     ghost invariant = { λ d. 1 ≤ d.piece };
 }
@@ -76,12 +89,18 @@ impl Depot for MemDepot {
     fn read_piece(&mut self, name: &str, from: u64, into: &mut [u8]) -> Result<usize, OutFault>
         ensures piece { Reads (Some self.old.inputs) name.now from into.old into.new result }
         ensures within { IfOk result (λ count. count ≤ length into.old) }
-        ensures amount { IfOk result (λ count. ForSome (input_of self.old.inputs name.now) (λ bytes. count ≡ piece_of self.old.piece bytes from (length into.old))) }
-        ensures fails { FailsExactly result (Contains self.old.fails (Fail.Read (next self.old.reads)) ⊎ (input_of self.old.inputs name.now ≡ None)) }
+        ensures amount { IfOk result (λ count. ForSome (input_of self.old.inputs name.now) (λ bytes. count
+            ≡ piece_of self.old.piece bytes from (length into.old))) }
+        ensures fails { FailsExactly result (Contains self.old.fails (Fail.Read (next self.old.reads))
+            ⊎ (input_of self.old.inputs name.now ≡ None)) }
         ensures memory { result ≡ Err OutFault.NoMemory → ⊥ }
         ensures counts { CountsRead name.now result self.old self.new }
         ensures after { AfterReads name.now (result ≡ Err OutFault.Failed) (seen_mem self.old) (seen_mem self.new) }
-        ensures others { self.new ≡ record self.old { reads = next self.old.reads; failed_reads = self.new.failed_reads; absent_reads = self.new.absent_reads } }
+        ensures others { self.new ≡ record self.old {
+          reads = next self.old.reads;
+          failed_reads = self.new.failed_reads;
+          absent_reads = self.new.absent_reads;
+        } }
     {
         self.reads = self.reads.saturating_add(1);
         if self.fails.as_slice().contains(&Fail::Read(self.reads)) {
@@ -103,7 +122,12 @@ impl Depot for MemDepot {
         ensures err { OnErr result (self.new.written ≡ self.old.written) }
         ensures fails { FailsExactly result (Contains self.old.fails (Fail.Begin (next self.old.begins))) }
         ensures after { AfterWrites (result ≡ Err OutFault.Failed) (seen_mem self.old) (seen_mem self.new) }
-        ensures others { self.new ≡ record self.old { begins = next self.old.begins; is_fresh = true; written = self.new.written; failed_writes = counted result self.old.failed_writes } }
+        ensures others { self.new ≡ record self.old {
+          begins = next self.old.begins;
+          is_fresh = true;
+          written = self.new.written;
+          failed_writes = counted result self.old.failed_writes;
+        } }
     {
         self.begins = self.begins.saturating_add(1);
         self.is_fresh = true;
@@ -118,12 +142,20 @@ impl Depot for MemDepot {
         requires { IsOpen self.old.written }
         ensures ok { OnOk result (self.new.written ≡ appended bytes.now self.old.written) }
         ensures err { OnErr result (AppendsPrefix bytes.now (Some self.old.written) (Some self.new.written)) }
-        ensures fails { IsTrue self.old.is_fresh → Contains self.old.fails (Fail.AppendOf (length self.old.written)) → IsErr result }
+        ensures fails { IsTrue self.old.is_fresh → Contains self.old.fails (Fail.AppendOf (length self.old.written))
+            → IsErr result }
         ensures fresh_only { result ≡ Err OutFault.Failed → IsTrue self.old.is_fresh }
-        ensures named_only { result ≡ Err OutFault.Failed → Contains self.old.fails (Fail.AppendOf (length self.old.written)) }
-        ensures half { result ≡ Err OutFault.Failed → self.new.written ≡ appended (take (length bytes.now / 2) bytes.now) self.old.written }
+        ensures named_only { result ≡ Err OutFault.Failed
+            → Contains self.old.fails (Fail.AppendOf (length self.old.written)) }
+        ensures half { result ≡ Err OutFault.Failed
+            → self.new.written ≡ appended (take (length bytes.now / 2) bytes.now) self.old.written }
         ensures after { AfterWrites (result ≡ Err OutFault.Failed) (seen_mem self.old) (seen_mem self.new) }
-        ensures others { self.new ≡ record self.old { is_fresh = false; written = self.new.written; failed_writes = counted result self.old.failed_writes } }
+        ensures others { self.new ≡ record self.old {
+          is_fresh = false;
+          written = self.new.written;
+          failed_writes =
+              counted result self.old.failed_writes;
+        } }
     {
         let was_fresh = self.is_fresh;
         self.is_fresh = false;
@@ -143,7 +175,11 @@ impl Depot for MemDepot {
         ensures fails { FailsExactly result (Contains self.old.fails (Fail.Finish (next self.old.finishes))) }
         ensures memory { result ≡ Err OutFault.NoMemory → ⊥ }
         ensures after { AfterWrites (result ≡ Err OutFault.Failed) (seen_mem self.old) (seen_mem self.new) }
-        ensures others { self.new ≡ record self.old { finishes = next self.old.finishes; written = self.new.written; failed_writes = counted result self.old.failed_writes } }
+        ensures others { self.new ≡ record self.old {
+          finishes = next self.old.finishes;
+          written = self.new.written;
+          failed_writes = counted result self.old.failed_writes;
+        } }
     {
         self.finishes = self.finishes.saturating_add(1);
         if self.fails.as_slice().contains(&Fail::Finish(self.finishes)) {

@@ -30,8 +30,10 @@ pub(crate) fn read_from(
     requires { 1 ≤ most }
     ensures absent { IfNone result (input_of inputs.now name.now ≡ None) }
     ensures there { IfSome result (λ count. IsSome (input_of inputs.now name.now)) }
-    ensures piece { IfSome result (λ count. ForSome (input_of inputs.now name.now) (λ bytes. IsPiece bytes from into.old into.new count)) }
-    ensures amount { IfSome result (λ count. ForSome (input_of inputs.now name.now) (λ bytes. count ≡ piece_of most bytes from (length into.old))) }
+    ensures piece { IfSome result (λ count. ForSome (input_of inputs.now name.now)
+        (λ bytes. IsPiece bytes from into.old into.new count)) }
+    ensures amount { IfSome result (λ count. ForSome (input_of inputs.now name.now) (λ bytes. count
+        ≡ piece_of most bytes from (length into.old))) }
     ensures within { IfSome result (λ count. count ≤ length into.old) }
 {
     let bytes = find(inputs, name)?;

@@ -54,7 +54,12 @@ impl Sink for MemSink {
         ensures ok { OnOk result (self.new.printed ≡ self.old.printed ++ bytes.now) }
         ensures err { OnErr result (self.new.printed ≡ self.old.printed) }
         ensures fails { (result ≡ Err OutFault.Failed) ↔ (self.old.fail_at ≡ next self.old.calls) }
-        ensures others { self.new ≡ record self.old { calls = next self.old.calls; printed = self.new.printed; faults = counted result self.old.faults } }
+        ensures others { self.new ≡ record self.old {
+          calls = next self.old.calls;
+          printed = self.new.printed;
+          faults =
+              counted result self.old.faults;
+        } }
         ensures after { AfterPrint result (seen_sink self.old) (seen_sink self.new) }
     {
         self.calls = self.calls.saturating_add(1);

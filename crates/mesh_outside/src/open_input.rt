@@ -44,8 +44,8 @@ impl<F: Read> OpenInput<F> {
     }
 }
 
-/// A file that was opened under a name, moved to a place. One that is to be read from its start is not moved, so that it
-/// may be a pipe.
+/// A file that was opened under a name, moved to a place. One that is to be read from its start is not moved, so that
+/// it may be a pipe.
 pub(crate) fn opened_at<F: Seek + Drop>(file: F, name: &str, from: u64) -> io::Result<OpenInput<F>>
     ensures moved { IfOk result (λ input. IsMoved F.stream_position from file input.file) }
     ensures place { IfOk result (λ input. input.place ≡ from) }

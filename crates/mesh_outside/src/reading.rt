@@ -40,7 +40,8 @@ fn read_next<D: Depot>(
     bytes: &mut Vec<u8>,
     piece: &mut [u8],
 ) -> Result<usize, OutFault>
-    ensures more { IfOk result (λ count. ReadsMore (D.seen depot.old).inputs name.now bytes.old.items bytes.new.items (length piece.old) count) }
+    ensures more { IfOk result (λ count. ReadsMore (D.seen depot.old).inputs name.now bytes.old.items bytes.new.items
+        (length piece.old) count) }
     ensures length { IfOk result (λ count. vec_len bytes.new ≡ vec_len bytes.old + count) }
     ensures within { IfOk result (λ count. count ≤ length piece.old) }
     ensures after { AfterReads name.now (result ≡ Err OutFault.Failed) (D.seen depot.old) (D.seen depot.new) }

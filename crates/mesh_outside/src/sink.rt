@@ -13,7 +13,8 @@ pub trait Sink {
 
     /// Prints bytes behind what was printed before. When it fails, a prefix of them was printed.
     fn print(&mut self, bytes: &[u8]) -> Result<(), OutFault>
-        ensures ok { OnOk result ((seen self.new).printed ≡ option_map (λ before. before ++ bytes.now) (seen self.old).printed) }
+        ensures ok { OnOk result ((seen self.new).printed
+            ≡ option_map (λ before. before ++ bytes.now) (seen self.old).printed) }
         ensures err { OnErr result (PrintsPrefix bytes.now (seen self.old).printed (seen self.new).printed) }
         ensures after { AfterPrint result (seen self.old) (seen self.new) };
 }

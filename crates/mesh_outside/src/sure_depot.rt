@@ -28,7 +28,12 @@ impl Model for SureDepot {
 
     ghost Value = { SureState };
 
-    ghost view = { λ d. record { inputs = d.inputs; piece = d.piece; written = d.written; absent_reads = d.absent_reads } };
+    ghost view = { λ d. record {
+      inputs = d.inputs;
+      piece = d.piece;
+      written = d.written;
+      absent_reads = d.absent_reads;
+    } };
 
     ghost invariant = { λ d. 1 ≤ d.piece };
 }
@@ -63,7 +68,8 @@ impl Depot for SureDepot {
     fn read_piece(&mut self, name: &str, from: u64, into: &mut [u8]) -> Result<usize, OutFault>
         ensures piece { Reads (Some self.old.inputs) name.now from into.old into.new result }
         ensures within { IfOk result (λ count. count ≤ length into.old) }
-        ensures amount { IfOk result (λ count. ForSome (input_of self.old.inputs name.now) (λ bytes. count ≡ piece_of self.old.piece bytes from (length into.old))) }
+        ensures amount { IfOk result (λ count. ForSome (input_of self.old.inputs name.now) (λ bytes. count
+            ≡ piece_of self.old.piece bytes from (length into.old))) }
         ensures fails { FailsExactly result (input_of self.old.inputs name.now ≡ None) }
         ensures memory { result ≡ Err OutFault.NoMemory → ⊥ }
         ensures counts { self.new ≡ record self.old { absent_reads = counted result self.old.absent_reads } }

@@ -9,8 +9,10 @@ use crate::{Depot, OutFault};
 /// there, or is there with a prefix of its bytes and unfinished.
 pub fn write_file<D: Depot>(depot: &mut D, name: &str, bytes: &[u8]) -> Result<(), OutFault>
     requires { ForSome (D.seen depot.old).written IsClosed }
-    ensures ok { OnOk result (Gains (D.seen depot.old).written (D.seen depot.new).written (file_with name.now bytes.now true ∷ [])) }
-    ensures err { OnErr result (GainsPrefix (D.seen depot.old).written (D.seen depot.new).written (file_with name.now bytes.now true ∷ [])) }
+    ensures ok { OnOk result (Gains (D.seen depot.old).written (D.seen depot.new).written
+        (file_with name.now bytes.now true ∷ [])) }
+    ensures err { OnErr result (GainsPrefix (D.seen depot.old).written (D.seen depot.new).written
+        (file_with name.now bytes.now true ∷ [])) }
     ensures after { AfterWrites (result ≡ Err OutFault.Failed) (D.seen depot.old) (D.seen depot.new) }
 {
     depot.begin(name)?;

@@ -16,17 +16,27 @@ flag_rule id letter = record (new_rule id) { short = Some letter; action = Some 
 
 -- the words that are left: any number of overrides
 abbrev pub overrides_rule : Rule
-overrides_rule = record (new_rule (codes "overrides")) { range = Some (record { start_inclusive = 0; end_inclusive = usize_max }) }
+overrides_rule = record (new_rule (codes "overrides")) {
+  range = Some (record {
+    start_inclusive = 0;
+    end_inclusive = usize_max;
+  });
+}
 
 -- a command with no argument, without the program's name among its words and without help and version flags
 abbrev pub bare : App
 bare = record (new_app (codes "parthenon_whole")) {
-  top = record ((new_app (codes "parthenon_whole")).top) { no_binary_name = true; disable_help_flag = true; disable_version_flag = true };
+  top = record ((new_app (codes "parthenon_whole")).top) {
+    no_binary_name = true;
+    disable_help_flag = true;
+    disable_version_flag = true;
+  };
 }
 
 -- with the inputs: -i FILE, -g N and -l
 abbrev pub with_inputs : App → App
-with_inputs a = with_rule (with_rule (with_rule a (option_rule (codes "input") 105)) (option_rule (codes "generate") 103)) (flag_rule (codes "large") 108)
+with_inputs a = with_rule (with_rule (with_rule a (option_rule (codes "input") 105)) (option_rule
+    (codes "generate") 103)) (flag_rule (codes "large") 108)
 
 -- with the values of a run: -w N and -d PREFIX
 abbrev pub with_values : App → App
@@ -34,7 +44,8 @@ with_values a = with_rule (with_rule a (option_rule (codes "workers") 119)) (opt
 
 -- with the flags -t and -n, and the overrides
 abbrev pub with_rest : App → App
-with_rest a = with_rule (with_rule (with_rule a (flag_rule (codes "events") 116)) (flag_rule (codes "print") 110)) overrides_rule
+with_rest a = with_rule (with_rule (with_rule a (flag_rule (codes "events") 116)) (flag_rule
+    (codes "print") 110)) overrides_rule
 
 -- the command: `(-i FILE | -g N [-l]) [-w N] [-d PREFIX] [-t] [-n] [block/name=value ..]`
 unfoldable pub command : App

@@ -11,7 +11,8 @@ is_number text = nat_lt 0 (length text) && nat_lt (length text) 11 && list_all i
 
 -- 1 to 10 decimal digits of a value between these
 abbrev pub is_number_within : ℕ → ℕ → Text → Bool
-is_number_within least greatest text = is_number text && nat_le least (digits_value 10 text) && nat_le (digits_value 10 text) greatest
+is_number_within least greatest text =
+    is_number text && nat_le least (digits_value 10 text) && nat_le (digits_value 10 text) greatest
 
 -- a number of workers: 1 to 64
 abbrev pub is_workers : Text → Bool

@@ -1,6 +1,7 @@
 ghost use Rattle.std.specs.Prelude.{◌≡◌, IfOk, false};
 ghost use Rattle.clap.specs.Words.{app_of, rule_of, with_rule};
-ghost use Rattle.mesh_words.specs.Command.{with_inputs, with_values, with_rest, bare, command, option_rule, flag_rule, overrides_rule};
+ghost use Rattle.mesh_words.specs.Command.{with_inputs, with_values, with_rest, bare, command, option_rule, flag_rule};
+ghost use Rattle.mesh_words.specs.Command.{overrides_rule};
 
 use clap::{Arg, ArgAction, Command};
 use std::alloc::{AllocError, Global};

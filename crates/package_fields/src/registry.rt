@@ -1,4 +1,5 @@
-ghost use Rattle.std.specs.Prelude.{◌≡◌, ◌<◌, ◌≤◌, ◌++◌, [], None, Some, length, slice_get, map, position, IfSome, OnOk, OnErr};
+ghost use Rattle.std.specs.Prelude.{◌≡◌, ◌<◌, ◌≤◌, ◌++◌, [], None, Some, length, slice_get, map, position, Err, IfSome};
+ghost use Rattle.std.specs.Prelude.{IsOk, OnOk, OnErr};
 ghost use Rattle.std.specs.Str.{bytes_eq};
 ghost use Rattle.package_fields.specs.Flags.{has};
 ghost use Rattle.package_fields.specs.Fields.{Registered, IsSound, labels, is_among, has_label};
@@ -95,6 +96,8 @@ impl Registry {
     /// and the count. After a refusal the registry is as before.
     pub fn add(&mut self, declared: Package) -> Result<(), FieldFault>
         ensures refused { Fails (package_fault self.old declared) result }
+        ensures too_many { package_fault self.old declared ≡ Some (FieldFault.TooMany 257)
+            → result ≡ Err (FieldFault.TooMany 257) }
         ensures added { OnOk result (self.new ≡ with_package self.old declared) }
         ensures unchanged { OnErr result (self.new ≡ self.old) }
     {
@@ -121,7 +124,16 @@ fn check_package(
     declared: &Package,
 ) -> Result<(), FieldFault>
     requires { length before.now ≤ 256 }
-    ensures { Fails (package_fault (record { packages = packages.now; fields = before.now }) declared.now) result }
+    ensures refused { Fails (package_fault (record {
+      packages = packages.now;
+      fields =
+          before.now;
+    }) declared.now) result }
+    ensures too_many { package_fault (record {
+      packages = packages.now;
+      fields =
+          before.now;
+    }) declared.now ≡ Some (FieldFault.TooMany 257) → result ≡ Err (FieldFault.TooMany 257) }
 {
     if has_name(packages, declared.name.as_str()) {
         let name = Name::copy_of(alloc, declared.name.as_str())?;
@@ -133,7 +145,9 @@ fn check_package(
 /// Whether fields may follow these fields.
 fn check_fields(alloc: Global, before: &[Field], fields: &[Field]) -> Result<(), FieldFault>
     requires { length before.now ≤ 256 }
-    ensures { Fails (fields_fault before.now fields.now) result }
+    ensures refused { Fails (fields_fault before.now fields.now) result }
+    ensures too_many { fields_fault before.now fields.now ≡ Some (FieldFault.TooMany 257)
+        → result ≡ Err (FieldFault.TooMany 257) }
 {
     for i in 0..fields.len() {
         check_field(alloc, before, &fields[..i], &fields[i])?;
@@ -149,7 +163,10 @@ fn check_field(
     field: &Field,
 ) -> Result<(), FieldFault>
     requires { length before.now ≤ 256 }
-    ensures { Fails (field_fault (before.now ++ new.now) field.now) result }
+    ensures refused { Fails (field_fault (before.now ++ new.now) field.now) result }
+    ensures fine { field_fault (before.now ++ new.now) field.now ≡ None → IsOk result }
+    ensures too_many { field_fault (before.now ++ new.now) field.now ≡ Some (FieldFault.TooMany 257)
+        → result ≡ Err (FieldFault.TooMany 257) }
 {
     if !is_permitted(field.flags.as_slice()) {
         let name = Name::copy_of(alloc, field.base.as_str())?;

@@ -17,8 +17,6 @@ mod entries;
 mod memory;
 mod seat;
 mod steps;
-#[cfg(test)]
-mod tests;
 mod turns;
 mod view;
 mod yard;

@@ -1,14 +1,88 @@
 // The decks of the runs, and the dumps of one row of four cells.
 use std::alloc::{AllocError, Global};
 
-/// Four cells between reflecting faces, with 8 in the first, of which each cell gives a fourth to the
-/// right in a cycle.
-pub const ONE_BLOCK: &str =
-    "<parthenon/mesh>\nnx1 = 4\nix1_bc = reflecting\nox1_bc = reflecting\n<parthenon/time>\nnlim = 2\n<whole>\ndenominator = 4\ndump_every = 1\n<field/a>\nv1 = 1\n<box/0>\nfield = a\nlo1 = 0\nhi1 = 0\namount = 8\n";
+/// The deck of `examples/reflecting_faces.in` without its comments: four cells between reflecting faces, with 8 in the
+/// first, of which each cell gives a fourth to the right in a cycle.
+pub const ONE_BLOCK: &str = "<parthenon/mesh>
+nx1 = 4
+ix1_bc = reflecting
+ox1_bc = reflecting
+<parthenon/time>
+nlim = 2
+<whole>
+denominator = 4
+dump_every = 1
+<field/a>
+v1 = 1
+<box/0>
+field = a
+lo1 = 0
+hi1 = 0
+amount = 8
+";
 
-/// Two dyes in a square, laid out after an input of Parthenon.
-pub const TWO_DYES: &str =
-    "# two dyes in a square, laid out after a Parthenon input\n<parthenon/job>\nproblem_id = advection\n\n<parthenon/mesh>\nrefinement = adaptive\nnumlevel = 3\nnx1 = 64\nx1min = -0.5\nx1max = 0.5\nix1_bc = periodic\nox1_bc = periodic\nnx2 = 64\nx2min = -0.5\nx2max = 0.5\nix2_bc = periodic\nox2_bc = periodic\nnx3 = 1\n\n<parthenon/meshblock>\nnx1 = 16\nnx2 = 16\nnx3 = 1\n\n<parthenon/time>\nnlim = 20\ntlim = 1.0        # not read here\nintegrator = rk2  # not read here\n\n<parthenon/output0>\nfile_type = hdf5\ndt = 0.05\n\n<parthenon/sparse>\ndealloc_count = 5\n\n<Advection>\ncfl = 0.45\n\n<field/dye>\nflags = Cell, Independent, FillGhost, WithFluxes, Sparse\nids = 1,2\nv1 = 10\nv2 = 10\n\n<box/first>\nfield = dye_1\nlo1 = 8\nhi1 = 15\nlo2 = 8\nhi2 = 15\namount = 100\n\n<box/second>\nfield = dye_2\nlo1 = 40\nhi1 = 47\nlo2 = 40\nhi2 = 47\namount = 50\n";
+/// An input laid out as Parthenon's are: two dyes in a square.
+pub const TWO_DYES: &str = "# two dyes in a square, laid out after a Parthenon input
+<parthenon/job>
+problem_id = advection
+
+<parthenon/mesh>
+refinement = adaptive
+numlevel = 3
+nx1 = 64
+x1min = -0.5
+x1max = 0.5
+ix1_bc = periodic
+ox1_bc = periodic
+nx2 = 64
+x2min = -0.5
+x2max = 0.5
+ix2_bc = periodic
+ox2_bc = periodic
+nx3 = 1
+
+<parthenon/meshblock>
+nx1 = 16
+nx2 = 16
+nx3 = 1
+
+<parthenon/time>
+nlim = 20
+tlim = 1.0        # not read here
+integrator = rk2  # not read here
+
+<parthenon/output0>
+file_type = hdf5
+dt = 0.05
+
+<parthenon/sparse>
+dealloc_count = 5
+
+<Advection>
+cfl = 0.45
+
+<field/dye>
+flags = Cell, Independent, FillGhost, WithFluxes, Sparse
+ids = 1,2
+v1 = 10
+v2 = 10
+
+<box/first>
+field = dye_1
+lo1 = 8
+hi1 = 15
+lo2 = 8
+hi2 = 15
+amount = 100
+
+<box/second>
+field = dye_2
+lo1 = 40
+hi1 = 47
+lo2 = 40
+hi2 = 47
+amount = 50
+";
 
 /// The dump of a cycle of one field in four cells: this row, or none where all are zero.
 pub fn dump(alloc: Global, cycle: u32, row: &str) -> Result<String, AllocError> {

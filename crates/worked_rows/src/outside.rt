@@ -9,7 +9,10 @@ use std::{env, fs, io, process};
 fn name_of(rt: &HostRuntime, test: &str) -> Result<String, TestFail> {
     let folder = env::temp_dir(rt)?;
     let folder = folder.as_path().to_str().ok_or("no text")?;
-    Ok(format!(in rt.alloc(); "{folder}/mesh_outside.{}.{test}", process::id(rt.process()))?)
+    Ok(format!(in rt.alloc();
+        "{folder}/mesh_outside.{}.{test}",
+        process::id(rt.process())
+    )?)
 }
 
 #[test]

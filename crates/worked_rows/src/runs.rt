@@ -165,7 +165,17 @@ fn the_opening_dump_is_the_printed_one(rt: HostRuntime) -> Result<(), TestFail> 
     assert_eq!(rt; text.len(), 133);
     assert_eq!(rt;
         text.as_str(),
-        "parthenon-whole dump 1\ncycle 0\ndims 1 cells 4 1 1 root 1 1 1\nfields 1\na\nblocks 1\nblock 0 level 0 at 0 0 0 zero 0\nfield a\n8 0 0 0\nend\n"
+        "parthenon-whole dump 1
+cycle 0
+dims 1 cells 4 1 1 root 1 1 1
+fields 1
+a
+blocks 1
+block 0 level 0 at 0 0 0 zero 0
+field a
+8 0 0 0
+end
+"
     );
     Ok(())
 }

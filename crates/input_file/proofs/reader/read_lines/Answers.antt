@@ -11,7 +11,7 @@ returns-in_err-read_line c =
     rw (p.1, p.2)
     (refused-by-line c.args.text.now c.loop-line.number c.loop-line.reader c.in-Some.line.now (lines_of c.in-Some.after.now) c.in_err-read_line.field-0.0
     (sym (ap (after_lines c.loop-line.number c.loop-line.reader) (lines-more c.loop-line.rest.now (c.in-Some.line, c.in-Some.after) c.in-Some.ensures.cases)) ∙ c.loop-line.invariant.2)
-    c.in_err-read_line.ensures)
+    c.in_err-read_line.ensures.answer)
 
 pub loop-line-preserved : goal.loop-line-preserved
 loop-line-preserved c =
@@ -19,7 +19,7 @@ loop-line-preserved c =
       search rules,
       omega (arith, shorter),
       sym (ap (after_lines c.loop-line.number c.loop-line.reader) (lines-more c.loop-line.rest.now (c.in-Some.line, c.in-Some.after) c.in-Some.ensures.cases)
-          ∙ after-read c.loop-line.number c.loop-line.reader c.read_line.new.self c.in-Some.line.now (lines_of c.in-Some.after.now) c.in_ok-read_line.ensures)
+          ∙ after-read c.loop-line.number c.loop-line.reader c.read_line.new.self c.in-Some.line.now (lines_of c.in-Some.after.now) c.in_ok-read_line.ensures.answer)
           ∙ c.loop-line.invariant.2,
     )
 
@@ -29,12 +29,12 @@ returns-in_err-read_line-2 c =
     rw (p.1, p.2)
     (refused-by-line c.args.text.now c.loop-line.number c.loop-line.reader c.loop-line.rest.now [] c.in_err-read_line-2.field-0.0
     (sym (ap (after_lines c.loop-line.number c.loop-line.reader) (lines-last c.loop-line.rest.now c.in_default.ensures.cases)) ∙ c.loop-line.invariant.2)
-    c.in_err-read_line-2.ensures)
+    c.in_err-read_line-2.ensures.answer)
 
 pub returns : goal.returns
 returns c =
     deck-read c.args.text.now c.read_line-2.new.self
     (sym (ap (after_lines c.loop-line.number c.loop-line.reader) (lines-last c.loop-line.rest.now c.in_default.ensures.cases)
-    ∙ after-read c.loop-line.number c.loop-line.reader c.read_line-2.new.self c.loop-line.rest.now [] c.in_ok-read_line-2.ensures)
+    ∙ after-read c.loop-line.number c.loop-line.reader c.read_line-2.new.self c.loop-line.rest.now [] c.in_ok-read_line-2.ensures.answer)
     ∙ c.loop-line.invariant.2)
     ∙ ap (λ (s : Reading). Ok s.0) (sym c.reader-2.view_is)

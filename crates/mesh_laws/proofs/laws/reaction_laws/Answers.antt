@@ -1,4 +1,3 @@
-use Rattle.mesh_laws.proofs.Kernels as kernels
 use Rattle.mesh_laws.proofs.Reactions as reactions
 use Rattle.mesh_laws.proofs.laws.reaction_laws.Goals as goal
 
@@ -7,6 +6,3 @@ returns-clause-sum c = reactions.reaction_keeps_sum
 
 pub returns-clause-balance : goal.returns-clause-balance
 returns-clause-balance c = reactions.reaction_balances
-
-pub returns-clause-kernel : goal.returns-clause-kernel
-returns-clause-kernel c = kernels.reactions_are_kernel
