@@ -22,11 +22,15 @@ use Rattle.mesh_rules.specs.Look.{look}
 use Rattle.mesh_rules.specs.Fields.{field_at, has_fluxes, has_ghosts, kind_at, moves_at, outside, outside_by, side_number}
 use Rattle.mesh_rules.specs.Faces.{Pair, cell_across, face_pair, face_pair_by, limited, own_pair, pair_outside, reconstructed, seen_in, seen_next, seen_second}
 use Rattle.mesh_rules.specs.Stage.{inflow_of, when_outside}
-use Rattle.mesh_laws.specs.PayLaws.{HasFittingRates, IsNoFiner, entering}
+use Rattle.mesh_laws.specs.PayLaws.{HasFittingRates, IsNoFiner}
 use Rattle.mesh_laws.proofs.Cells.{cells_axes, cells_plus}
 use Rattle.mesh_laws.proofs.Pays.{speed}
 use Rattle.mesh_laws.proofs.Portions.{portion_within, rate_grows}
 use Rattle.run_laws.proofs.SideSums.{cells_le, others, side_sum}
+
+-- what of a pair at a side of a cell enters the cell
+abbrev pub entering : Bool → Pair → ℕ
+entering high x = cond high x.left x.right
 
 -- one rate is at most the sum over the axes
 rate_in_sum : (g : ℕ → ℕ) (dims axis : ℕ) → axis < dims → dims ≤ 3 → g axis ≤ sum_by g (range_with_len 0 dims)

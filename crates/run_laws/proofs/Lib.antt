@@ -9,3 +9,5 @@ pub mod CycleBounds
 pub mod OpeningSums
 pub mod RunBounds
 pub mod Outside
+pub mod Slots
+pub mod Fits

@@ -2,3 +2,4 @@ pub mod HistoryLaws
 pub mod TreeLaws
 pub mod BoundLaws
 pub mod MaskLaws
+pub mod FitLaws

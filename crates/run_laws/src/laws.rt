@@ -1,8 +1,9 @@
 //! Laws of cycles and runs.
 
 ghost use Rattle.run_laws.specs.BoundLaws.{NoSumPassesTheBound, NoTotalFallsBelowZero, RunsStayWithin, SumGrowsByInflow};
+ghost use Rattle.run_laws.specs.FitLaws.{FixedRunsAreFit};
 ghost use Rattle.run_laws.specs.HistoryLaws.{CyclesBalance, HistoryBalances};
-ghost use Rattle.run_laws.specs.MaskLaws.{CyclesAreZeroOutside};
+ghost use Rattle.run_laws.specs.MaskLaws.{CyclesAreZeroOutside, MasksStayFit, OpeningMaskFits};
 ghost use Rattle.run_laws.specs.TreeLaws.{NextIsLeastTree, OpeningIsLeastTree, RunsStandOnTrees};
 
 /// The opening tree and each next tree are the least ones, and each leaf changes by at most one level; so every mesh of a
@@ -31,7 +32,15 @@ pub fn bound_laws()
 {}
 
 /// After each stage of a cycle, after its reaction and after its check, a field that does not stay on a leaf is zero in
-/// each of its cells.
-pub fn mask_law()
-    ensures { CyclesAreZeroOutside }
+/// each of its cells. The opening's mask has a slot that fits for each leaf and field, and so has each mask after a cycle
+/// on the same tree.
+pub fn mask_laws()
+    ensures outside { CyclesAreZeroOutside }
+    ensures opening { OpeningMaskFits }
+    ensures cycles { MasksStayFit }
+{}
+
+/// Each state with which a cycle of a run on one tree starts is fit.
+pub fn fit_law()
+    ensures { FixedRunsAreFit }
 {}
