@@ -1,0 +1,4 @@
+pub mod Beside
+pub mod Fluxes
+pub mod Rates
+pub mod Sides
