@@ -1,4 +1,0 @@
-pub mod Beside
-pub mod Fluxes
-pub mod Rates
-pub mod Sides
