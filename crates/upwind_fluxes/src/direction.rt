@@ -1,0 +1,67 @@
+//! What passes in one direction, by the fastest tier.
+
+ghost use Rattle.std.specs.Prelude.{◌≡◌, ◌≢◌, ◌≤◌, ◌<◌, ◌^◌, ℕ, List, length, slice_index, All};
+ghost use Rattle.mesh_num.specs.Portion.{portion};
+ghost use Rattle.block_layout.specs.Indices.{IsWithin};
+ghost use Rattle.block_layout.specs.Layouts.{len};
+ghost use Rattle.block_layout.specs.Faces.{face_count, face_extents, face_number};
+ghost use Rattle.upwind_fluxes.specs.Fluxes.{donor_total, flux_at};
+
+use crate::donor::Donor;
+use crate::faces::write_portions;
+use crate::sides::close_if;
+use block_layout::Layout;
+use morton_order::Side;
+use upwind_portions::{Fraction, Tier};
+
+/// Writes what the cells at one side of the faces of an axis pay by a rate, where no total passes `greatest`.
+fn write_direction(
+    layout: &Layout,
+    axis: u32,
+    donor: Donor,
+    fraction: &Fraction,
+    greatest: u64,
+    cells: &[u64],
+    into: &mut [u64],
+)
+    requires axis { axis < layout.now.dims }
+    requires cells { length cells.now ≡ len layout.now }
+    requires faces { length into.old ≡ face_count layout.now }
+    requires bound { All (λ t. t ≤ greatest) cells.now }
+    requires small { greatest < 2 ^ 62 }
+    ensures along { (i : List ℕ) → IsWithin (face_extents layout.now axis) i → slice_index into.new (face_number layout.now axis i) ≡ portion (donor_total layout.now donor cells.now axis i) fraction.now.rate fraction.now.denominator }
+    ensures others { (other : ℕ) (i : List ℕ) → other < layout.now.dims → other ≢ axis → IsWithin (face_extents layout.now other) i → slice_index into.new (face_number layout.now other i) ≡ slice_index into.old (face_number layout.now other i) }
+{
+    match fraction.tier(greatest) {
+        Tier::Nothing(portions) => write_portions(layout, axis, donor, portions, cells, into),
+        Tier::Small(portions) => write_portions(layout, axis, donor, portions, cells, into),
+        Tier::Word(portions) => write_portions(layout, axis, donor, portions, cells, into),
+        Tier::Any(portions) => write_portions(layout, axis, donor, portions, cells, into),
+    }
+}
+
+/// Writes what passes the faces of an axis in one direction; nothing passes a closed side.
+pub(crate) fn fluxes_along(
+    layout: &Layout,
+    axis: u32,
+    donor: Donor,
+    fraction: &Fraction,
+    greatest: u64,
+    closed: &[bool; 6],
+    cells: &[u64],
+    into: &mut [u64],
+)
+    requires axis { axis < layout.now.dims }
+    requires cells { length cells.now ≡ len layout.now }
+    requires faces { length into.old ≡ face_count layout.now }
+    requires bound { All (λ t. t ≤ greatest) cells.now }
+    requires small { greatest < 2 ^ 62 }
+    ensures along { (i : List ℕ) → IsWithin (face_extents layout.now axis) i → slice_index into.new (face_number layout.now axis i) ≡ flux_at layout.now donor fraction.now.rate fraction.now.denominator closed.now cells.now axis i }
+    ensures others { (other : ℕ) (i : List ℕ) → other < layout.now.dims → other ≢ axis → IsWithin (face_extents layout.now other) i → slice_index into.new (face_number layout.now other i) ≡ slice_index into.old (face_number layout.now other i) }
+{
+    write_direction(layout, axis, donor, fraction, greatest, cells, into);
+    let low = Side { axis, high: false };
+    close_if(layout, low, closed[2 * axis as usize], cells, into);
+    let high = Side { axis, high: true };
+    close_if(layout, high, closed[2 * axis as usize + 1], cells, into);
+}
