@@ -61,7 +61,10 @@ fn the_deck_of_a_seed_is_listed(rt: HostRuntime) -> Result<(), TestFail> {
     assert!(rt; large.out.printed().ends_with(LAST_OF_SEED_SEVEN.as_bytes()));
     let words = ["-n", "-g", "7", "box/0/amount=-1"];
     let refused = call(alloc, &words, b"<")?;
-    assert_eq!(rt; refused.out.printed(), b"refused: value box/0 amount\n".as_slice());
+    assert_eq!(rt;
+        refused.out.printed(),
+        b"refused: value box/0 amount\n".as_slice()
+    );
     Ok(())
 }
 
