@@ -84,7 +84,7 @@ place_within t nodes table kept i k less few =
     below i (length t.leaves) k (2 * t.shape.dims) (length table) less few e
   where
     below : (i n k w l : ℕ) → i < n → k < w → l ≡ n * w → i * w + k < l
-    below i n k w l h f e = let m : suc i * w ≤ n * w = mul-le-mul_right w h in let g : suc i * w ≡ i * w + w = omega arith in omega arith
+    below i n k w l h f e = let a : suc i ≤ n = omega arith in let m : suc i * w ≤ n * w = mul-le-mul_right w a in let g : suc i * w ≡ i * w + w = omega arith in omega arith
 
 pub sight_read : (t : BlockTree) (nodes : List Loc) (table : List Sight) → IsKept t nodes table → (i axis : ℕ) (high : Bool) (d : Sight) → i < length t.leaves → axis < t.shape.dims → get_or table (i * (2 * t.shape.dims) + (2 * axis + cond high 1 0)) d ≡ behind_leaf t (leaf t i) axis high
 sight_read t nodes table kept i axis high d less used =
