@@ -1,6 +1,6 @@
 -- The first place that is a given one is one at which it is listed.
-use Rattle.std.proofs.Common.{◌≡◌, ◌∙◌, sym, ap, refl, ℕ, ◌<◌, ◌≤◌, Bool, true, false, cond, nat_lt, List, length, Option, Some, None, get_or, arith}
-use Rattle.std.specs.Prelude.{◌==◌, slice_get, position}
+use Rattle.std.proofs.Common.{◌≡◌, ◌∙◌, sym, ap, refl, ℕ, ◌<◌, ◌≤◌, true, false, cond, nat_lt, List, length, Some, None, get_or, arith}
+use Rattle.std.specs.Prelude.{◌==◌, position}
 use Rattle.std.specs.List.{position_or_len}
 use Rattle.std.proofs.lemmas.Bool.{and_parts, and_from, eqb-true, eq-eqb, ltb-true, ltb-false, false≢true}
 use Rattle.std.proofs.lemmas.List.Sums.{passes_at_first, fails_before_first}

@@ -1,5 +1,5 @@
 -- Which packs are noted.
-use Rattle.std.specs.Prelude.{◌≡◌, ◌≢◌, ◌⊎◌, ℕ, ◌<◌, Option, None, Some, List, cond, length, nat_eq, replicate, slice_index_or, slice_set}
+use Rattle.std.specs.Prelude.{◌≡◌, ◌≢◌, ◌⊎◌, ℕ, ◌<◌, Option, None, Some, List, cond, length, nat_eq, slice_index_or, slice_set}
 use Rattle.sparse_pool.specs.declared.place.PackKind.{PackKind}
 use Rattle.sparse_pool.specs.declared.place.PackKind.TheVariants.{All, Ghost, Flux}
 use Rattle.pack_cache.specs.declared.pack.Pack.{Pack}

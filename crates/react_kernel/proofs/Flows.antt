@@ -1,9 +1,8 @@
 -- Flows by field in the course of the reactions of a cell.
-use Rattle.std.proofs.Common.{◌≡◌, ◌≢◌, ◌∙◌, sym, ap, subst, refl, ℕ, zero, suc, ◌+◌, ◌-◌, ◌*◌, ◌<◌, ◌≤◌, ◌^◌, List, [], ◌∷◌, length, map, take, replicate, slice_index, slice_index_or, slice_set, sum, arith}
+use Rattle.std.proofs.Common.{◌≡◌, ◌∙◌, sym, ap, subst, refl, ℕ, ◌+◌, ◌*◌, ◌<◌, ◌≤◌, ◌^◌, List, length, take, replicate, slice_index, slice_index_or, sum, arith}
 use Rattle.std.specs.Prelude.{All}
-use Rattle.std.specs.List.{enumerate_from, fold}
-use Rattle.std.proofs.Math.Nat.{mul-le-mul_right}
-use Rattle.std.proofs.lemmas.List.{ext_get_or, get_or_default, get_or-map, length-map, length-take, length-replicate, take_all}
+use Rattle.std.specs.List.{enumerate_from}
+use Rattle.std.proofs.lemmas.List.{ext_get_or, get_or_default, get_or-map, length-map, length-take, take_all}
 use Rattle.std.proofs.lemmas.List.Sums.{fold_more}
 use Rattle.std.proofs.lemmas.List.FromFn.{length-enumerate_from, get_or-enumerate_from}
 use Rattle.std.proofs.lemmas.List.Elements.{All-from_get_or, All-get_or, All-take}
@@ -15,7 +14,7 @@ use Rattle.mesh_rules.specs.Reaction.{added, after_reaction, before_reactions, m
 use Rattle.react_kernel.specs.Code.{CanReact}
 use Rattle.react_kernel.specs.Steps.{Moves, only_at}
 use Rattle.react_kernel.specs.ReactionLists.{at_added}
-use Rattle.react_kernel.specs.ReactionLaws.{After, after_reactions, few_times, zero_at}
+use Rattle.react_kernel.specs.ReactionLaws.{after_reactions, few_times, zero_at}
 
 abbrev at_none : ℕ × Flow
 at_none = (0, no_flow)

@@ -1,5 +1,5 @@
 -- An amount that is used of one field and made of another.
-use Rattle.std.proofs.Common.{◌≡◌, ◌≢◌, ◌∙◌, sym, ap, refl, inl, inr, ℕ, ◌+◌, ◌<◌, ◌⊎◌, List, length, slice_index_or, slice_set, arith}
+use Rattle.std.proofs.Common.{◌≡◌, ◌∙◌, sym, ap, inl, inr, ℕ, ◌+◌, ◌<◌, List, length, slice_index_or, slice_set, arith}
 use Rattle.std.proofs.lemmas.Bool.{cases_eq}
 use Rattle.std.proofs.lemmas.List.{get_or-set_same, get_or-set_other, length-set}
 use Rattle.package_fields.specs.declared.flow.Flow.{Flow}

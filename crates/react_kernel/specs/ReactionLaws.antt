@@ -1,11 +1,11 @@
 -- Proof, for the laws of the kernel: reactions keep the laws of kernels.
-use Rattle.std.proofs.Common.{◌≡◌, ◌≢◌, ◌∙◌, sym, ap, subst, refl, inl, inr, ℕ, zero, suc, ◌+◌, ◌-◌, ◌*◌, ◌<◌, ◌≤◌, List, [], ◌∷◌, length, replicate, slice_index, sum, arith}
+use Rattle.std.proofs.Common.{◌≡◌, ◌∙◌, sym, ap, subst, refl, ℕ, ◌+◌, ◌-◌, ◌*◌, ◌<◌, ◌≤◌, List, [], ◌∷◌, length, replicate, slice_index, sum, arith}
 use Rattle.std.specs.Prelude.{All}
 use Rattle.std.specs.List.{fold}
 use Rattle.std.proofs.Math.Nat.{mul-le-mul_right}
-use Rattle.std.proofs.lemmas.List.{length-set, get_or-replicate, length-replicate, get_or_past}
+use Rattle.std.proofs.lemmas.List.{length-set, get_or-replicate, length-replicate}
 use Rattle.std.proofs.lemmas.List.Elements.{All-head, All-tail}
-use Rattle.package_fields.specs.Kernel.{Balances, HasFields, KernelLaws, Reacted, nothing}
+use Rattle.package_fields.specs.Kernel.{KernelLaws, Reacted, nothing}
 use Rattle.problem_set.specs.declared.entries.Reaction.{Reaction}
 use Rattle.mesh_rules.specs.Reaction.{added, after_reaction, before_reactions, moved_by, react_cell, taken}
 use Rattle.react_kernel.specs.Code.{CanReact, ReactionsLaw, code_of, reactions_in, reacts, spelled}

@@ -1,5 +1,5 @@
 -- One reaction in a cell and its flows. This serves the private contracts of the crate.
-use Rattle.std.specs.Prelude.{◌≡◌, ℕ, ◌+◌, ◌<◌, List, length, cond, nat_eq, slice_index_or}
+use Rattle.std.specs.Prelude.{◌≡◌, ℕ, ◌<◌, List, length, cond, nat_eq, slice_index_or}
 use Rattle.package_fields.specs.declared.flow.Flow.{Flow}
 use Rattle.package_fields.specs.Flow.{no_flow}
 use Rattle.package_fields.specs.Kernel.{with_parts}

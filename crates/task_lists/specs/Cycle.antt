@@ -3,7 +3,6 @@ use Rattle.std.specs.Prelude.{◌≡◌, ℕ, ◌+◌, ◌-◌, ◌*◌, ◌/◌
 use Rattle.std.specs.List.{list_all, range_with_len, slice_index_or}
 use Rattle.task_lists.specs.declared.task.TaskKind.{TaskKind}
 use Rattle.task_lists.specs.declared.task.TaskKind.TheVariants.{Send, Fill, Fluxes, Post, Fix, Update, React, Tag, Check}
-use Rattle.task_lists.specs.declared.task.TaskId.{TaskId}
 use Rattle.task_lists.specs.Tasks.{Listed, is_ready}
 
 -- how many tasks a partition has: six a stage, then three

@@ -1,4 +1,4 @@
-use Rattle.std.proofs.Common.{◌≡◌, ◌∙◌, sym, ap, subst, ◌≤◌, ◌<◌, length, List, arith}
+use Rattle.std.proofs.Common.{◌∙◌, sym, ap, subst, ◌≤◌, length, List, arith}
 use Rattle.std.specs.Prelude.{All}
 use Rattle.package_fields.specs.Kernel.{with_reacted}
 use Rattle.problem_set.specs.declared.entries.Reaction.{Reaction}

@@ -1,5 +1,5 @@
-use Rattle.std.proofs.Common.{◌≡◌, ◌∙◌, sym, ap, subst, ◌+◌, ◌-◌, ◌*◌, ◌<◌, ◌≤◌, cond, nat_eq, nat_lt, length, Some, slice_index, slice_set, ℕ, List, arith}
-use Rattle.std.specs.Prelude.{count_by, All}
+use Rattle.std.proofs.Common.{◌≡◌, ◌∙◌, sym, ap, subst, ◌+◌, ◌*◌, ◌<◌, ◌≤◌, cond, nat_eq, nat_lt, length, Some, slice_index, slice_set, ℕ, arith}
+use Rattle.std.specs.Prelude.{count_by}
 use Rattle.std.proofs.lemmas.List.Elements.{All-set}
 use Rattle.task_lists.specs.Cycle.{CycleTasks, next_of, task_count, with_next}
 use Rattle.task_lists.proofs.Counts.{byte_is, one_more}

@@ -1,4 +1,4 @@
-use Rattle.std.proofs.Common.{◌≡◌, ◌∙◌, sym, subst, ◌<◌, ◌*◌, length, true, false, nat_lt, Some, None, slice_index, ℕ, arith}
+use Rattle.std.proofs.Common.{◌≡◌, ◌∙◌, sym, subst, ◌<◌, ◌*◌, length, true, false, nat_lt, Some, None, slice_index, arith}
 use Rattle.std.proofs.lemmas.Bool.{le-ltb, lt-ltb, or_from, or_left, or_right}
 use Rattle.std.proofs.lemmas.Grind.{get_or_default_zero}
 use Rattle.task_lists.specs.Cycle.{CycleTasks, next_of, stages_over}
