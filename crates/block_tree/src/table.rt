@@ -163,7 +163,13 @@ fn behind_of(nodes: &Nodes, leaves: &Nodes, shape: &Shape, at: &Loc, side: Side)
 }
 
 /// Puts what stands behind the sides of a leaf at the end of a table: x1 low, x1 high, x2 low and so on.
-fn push_sights(nodes: &Nodes, leaves: &Nodes, shape: &Shape, at: &Loc, table: &mut Vec<Behind>) -> Result<(), AllocError>
+fn push_sights(
+    nodes: &Nodes,
+    leaves: &Nodes,
+    shape: &Shape,
+    at: &Loc,
+    table: &mut Vec<Behind>,
+) -> Result<(), AllocError>
     requires tree { AreLeaves shape.now nodes.now leaves.now }
     requires valid { IsIn shape.now at.now }
     ensures pushed { IfOk result (λ _. table.new.items ≡ table.old.items ++ sights_of shape.now (is_listed nodes.now) leaves.now at.now) }
@@ -179,7 +185,12 @@ fn push_sights(nodes: &Nodes, leaves: &Nodes, shape: &Shape, at: &Loc, table: &m
 }
 
 /// What stands behind the sides of all leaves of a tree, leaf by leaf.
-pub(crate) fn list_sights(alloc: Global, nodes: &Nodes, leaves: &Nodes, shape: &Shape) -> Result<Vec<Behind>, AllocError>
+pub(crate) fn list_sights(
+    alloc: Global,
+    nodes: &Nodes,
+    leaves: &Nodes,
+    shape: &Shape,
+) -> Result<Vec<Behind>, AllocError>
     requires tree { AreLeaves shape.now nodes.now leaves.now }
     ensures whole { IfOk result (λ table. table.items ≡ table_of shape.now (is_listed nodes.now) leaves.now) }
 {

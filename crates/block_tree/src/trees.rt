@@ -7,10 +7,10 @@ ghost use Rattle.block_tree.specs.Leaves.{inner_of, leaves_of, roots as roots_of
 ghost use Rattle.block_tree.specs.Nodes.{number_in};
 ghost use Rattle.block_tree.specs.Built.{IsBlockTree, IsTreeOf, behind_leaf, is_inner as is_inner_of, leaf as leaf_of, tree_of};
 
-use mesh_num::NoMemory;
 use crate::grow::{push_below, push_roots};
 use crate::nodes::Nodes;
 use crate::table::{Behind, list_sights};
+use mesh_num::NoMemory;
 use morton_order::{Loc, Shape, Side};
 use std::alloc::{AllocError, Global};
 use std::marker::Model;
@@ -115,7 +115,13 @@ fn side_number(side: Side) -> usize
 }
 
 /// Puts the inner nodes and the leaves below some roots at the ends of two lists.
-fn push_all(nodes: &Nodes, shape: &Shape, roots: &[Loc], inner: &mut Vec<Loc>, leaves: &mut Vec<Loc>) -> Result<(), AllocError>
+fn push_all(
+    nodes: &Nodes,
+    shape: &Shape,
+    roots: &[Loc],
+    inner: &mut Vec<Loc>,
+    leaves: &mut Vec<Loc>,
+) -> Result<(), AllocError>
     requires shape { IsShape shape.now }
     requires roots { roots.now ≡ roots_of shape.now }
     ensures inner { IfOk result (λ _. inner.new.items ≡ inner.old.items ++ inner_of shape.now (is_listed nodes.now)) }
@@ -128,7 +134,12 @@ fn push_all(nodes: &Nodes, shape: &Shape, roots: &[Loc], inner: &mut Vec<Loc>, l
 }
 
 /// The tree of a balanced set of inner nodes, on its roots by rising key.
-pub(crate) fn whole(alloc: Global, shape: Shape, roots: &[Loc], nodes: Nodes) -> Result<Tree, AllocError>
+pub(crate) fn whole(
+    alloc: Global,
+    shape: Shape,
+    roots: &[Loc],
+    nodes: Nodes,
+) -> Result<Tree, AllocError>
     requires tree { IsTreeOf shape (is_listed nodes) }
     requires roots { roots.now ≡ roots_of shape }
     ensures built { IfOk result (λ t. t ≡ tree_of shape (is_listed nodes)) }

@@ -25,9 +25,9 @@ address_is b i = polynomial b.first (slice_index b.low 0) (slice_index b.low 1) 
 pub address_within : (extents : List ℕ) (b : BoxIn) (n : ℕ) (i : List ℕ) → IsBoxIn extents b n → IsWithin extents i → address b i < n
 address_within extents b n i is w =
     let below : number_of b.widths (added b.low i) < count_of b.widths =
-        number_below (slice_index b.low 0 + slice_index i 0) (slice_index b.low 1 + slice_index i 1) (slice_index b.low 2 + slice_index i 2)
-            (slice_index b.widths 0) (slice_index b.widths 1) (slice_index b.widths 2)
-            (omega (arith, is.along1, w.along1)) (omega (arith, is.along2, w.along2)) (omega (arith, is.along3, w.along3)) in
+    number_below (slice_index b.low 0 + slice_index i 0) (slice_index b.low 1 + slice_index i 1) (slice_index b.low 2 + slice_index i 2)
+    (slice_index b.widths 0) (slice_index b.widths 1) (slice_index b.widths 2)
+    (omega (arith, is.along1, w.along1)) (omega (arith, is.along2, w.along2)) (omega (arith, is.along3, w.along3)) in
     omega (arith, is.within)
 
 -- each row lies in the list
@@ -49,9 +49,9 @@ pub box-inside : (gives : ℕ → ℕ) (extents : List ℕ) (from : List ℕ) (a
 box-inside gives extents from a b into i cells fa fb w =
     let written = planes_written gives (slice_index extents 0) (slice_index extents 1) from (planes_of a) (planes_of b) (slice_index extents 2) into in
     ap (slice_index written) (address_is b i)
-        ∙ planes-inside gives (slice_index extents 0) (slice_index extents 1) from (planes_of a) (planes_of b) (slice_index extents 2) into (slice_index i 2) (slice_index i 1) (slice_index i 0)
-            (rows_fit extents a (length from) cells fa) (rows_fit extents b (length into) cells fb) (rows_apart extents b (length into) fb) w.along3 w.along2 w.along1
-        ∙ ap (λ (n : ℕ). gives (slice_index from n)) (sym (address_is a i))
+    ∙ planes-inside gives (slice_index extents 0) (slice_index extents 1) from (planes_of a) (planes_of b) (slice_index extents 2) into (slice_index i 2) (slice_index i 1) (slice_index i 0)
+    (rows_fit extents a (length from) cells fa) (rows_fit extents b (length into) cells fb) (rows_apart extents b (length into) fb) w.along3 w.along2 w.along1
+    ∙ ap (λ (n : ℕ). gives (slice_index from n)) (sym (address_is a i))
 
 -- a place that is no address of the box lies off each row
 off_row : (extents : List ℕ) (b : BoxIn) (n plane row : ℕ) → plane < slice_index extents 2 → row < slice_index extents 1 → ((i : List ℕ) → IsWithin extents i → n ≢ address b i)
@@ -59,21 +59,21 @@ off_row : (extents : List ℕ) (b : BoxIn) (n plane row : ℕ) → plane < slice
 off_row extents b n plane row hp hr off =
     let start = (planes_of b).first + plane * (planes_of b).plane + row * (planes_of b).step in
     ⊎_elim (λ (h : n < start). inl h)
-        (λ (h : start ≤ n). ⊎_elim
-            (λ (k : n < start + slice_index extents 0).
-                let i = index (n - start) row plane in
-                let w : IsWithin extents i = record { along1 = omega arith; along2 = hr; along3 = hp } in
-                let e : n ≡ address b i = omega (arith, address_is b i) in
-                absurd (off i w e))
-            (λ (k : start + slice_index extents 0 ≤ n). inr k)
-            (cases_lt n (start + slice_index extents 0)))
-        (cases_lt n start)
+    (λ (h : start ≤ n). ⊎_elim
+    (λ (k : n < start + slice_index extents 0).
+    let i = index (n - start) row plane in
+    let w : IsWithin extents i = record { along1 = omega arith; along2 = hr; along3 = hp } in
+    let e : n ≡ address b i = omega (arith, address_is b i) in
+    absurd (off i w e))
+    (λ (k : start + slice_index extents 0 ≤ n). inr k)
+    (cases_lt n (start + slice_index extents 0)))
+    (cases_lt n start)
 
 pub box-outside : (gives : ℕ → ℕ) (extents : List ℕ) (from : List ℕ) (a b : BoxIn) (into : List ℕ) (n : ℕ) → HasCells extents → IsBoxIn extents a (length from) → IsBoxIn extents b (length into) → ((i : List ℕ) → IsWithin extents i → n ≢ address b i)
     → slice_index (planes_written gives (slice_index extents 0) (slice_index extents 1) from (planes_of a) (planes_of b) (slice_index extents 2) into) n ≡ slice_index into n
 box-outside gives extents from a b into n cells fa fb off =
     planes-outside gives (slice_index extents 0) (slice_index extents 1) from (planes_of a) (planes_of b) (slice_index extents 2) into n
-        (rows_fit extents a (length from) cells fa) (rows_fit extents b (length into) cells fb) (λ plane row hp hr. off_row extents b n plane row hp hr off)
+    (rows_fit extents a (length from) cells fa) (rows_fit extents b (length into) cells fb) (λ plane row hp hr. off_row extents b n plane row hp hr off)
 
 one_plane : (p m : ℕ) → 1 ≤ m → p ≤ p * m
 one_plane p m h = grind arith

@@ -15,15 +15,15 @@ use Rattle.upwind_fluxes.specs.Beside.{beside_face, cells_beside}
 number_from_corner : (n i : List ℕ) → number_of n (added (0 ∷ 0 ∷ 0 ∷ []) i) ≡ number_of n i
 number_from_corner n i = corner (slice_index i 0) (slice_index i 1) (slice_index i 2) (slice_index n 0) (slice_index n 1)
   where
-  corner : (x y z n m : ℕ) → 0 + x + n * (0 + y + m * (0 + z)) ≡ x + n * (y + m * z)
-  corner x y z n m = omega arith
+    corner : (x y z n m : ℕ) → 0 + x + n * (0 + y + m * (0 + z)) ≡ x + n * (y + m * z)
+    corner x y z n m = omega arith
 
 pub face_address : (l : Layout) (axis first : ℕ) (extents i : List ℕ) → first ≡ first_face l axis → extents ≡ face_extents l axis
     → address (record { first = first; widths = extents; low = 0 ∷ 0 ∷ 0 ∷ [] }) i ≡ face_number l axis i
 face_address l axis first extents i p q =
     ap (λ (n : ℕ). first + n) (number_from_corner extents i)
-        ∙ ap (λ (n : ℕ). n + number_of extents i) p
-        ∙ ap (λ (e : List ℕ). first_face l axis + number_of e i) q
+    ∙ ap (λ (n : ℕ). n + number_of extents i) p
+    ∙ ap (λ (e : List ℕ). first_face l axis + number_of e i) q
 
 pub beside_address : (l : Layout) (axis : ℕ) (donor : Donor) (from : BoxIn) (i : List ℕ) → from ≡ cells_beside l axis donor → address from i ≡ place l (beside_face l axis donor i)
 beside_address l axis donor from i r =
@@ -36,8 +36,8 @@ pub written_faces : (l : Layout) (axis : ℕ) (donor : Donor) (gives : ℕ → �
     → (i : List ℕ) → IsWithin (face_extents l axis) i → slice_index new (face_number l axis i) ≡ gives (slice_index cells (place l (beside_face l axis donor i)))
 written_faces l axis donor gives cells new first extents from p q r h i w =
     ap (slice_index new) (sym (face_address l axis first extents i p q))
-        ∙ h i (subst (λ (n : List ℕ). IsWithin n i) (sym q) w)
-        ∙ ap (λ (n : ℕ). gives (slice_index cells n)) (beside_address l axis donor from i r)
+    ∙ h i (subst (λ (n : List ℕ). IsWithin n i) (sym q) w)
+    ∙ ap (λ (n : ℕ). gives (slice_index cells n)) (beside_address l axis donor from i r)
 
 -- the faces of another axis are none of a box of faces
 pub other_face : (l : Layout) (axis other first : ℕ) (extents i j : List ℕ) → IsLayout l.dims l.cells → axis < l.dims → other < l.dims → other ≢ axis

@@ -24,16 +24,19 @@ pub one_more_axis : (l : Layout) (donor : Donor) (rates : LevelRates) (m : Multi
     → (a : ℕ) (i : List ℕ) → a < axis + 1 → a < l.dims → IsWithin (face_extents l a) i → HasFlux l donor rates closed cells new a i
 one_more_axis l donor rates m closed cells old new axis f sound of_rates used is here others known a i h u w =
     elim (eq-or-lt_of_le (at_most a axis h)) [
-      inl e ↦ subst (λ (b : ℕ). IsWithin (face_extents l b) i → HasFlux l donor rates closed cells new b i) (sym e)
+      | inl e ↦ subst (λ (b : ℕ). IsWithin (face_extents l b) i → HasFlux l donor rates closed cells new b i) (sym e)
           (λ v. here i v
-              ∙ ap (λ (g : Fraction). flux_at l donor g.rate g.denominator closed cells axis i) is
-              ∙ ap (λ (r : ℕ). flux_at l donor r (fraction_at m axis donor).denominator closed cells axis i) (of_rates.rate axis donor three)
-              ∙ ap (λ (d : ℕ). flux_at l donor (rate_of (along rates axis) donor) d closed cells axis i) (of_rates.denominator axis donor three)) w
-    | inr less ↦ others a i u (λ e. below_itself a axis less e) w ∙ known a i less u w ]
+          ∙ ap (λ (g : Fraction). flux_at l donor g.rate g.denominator closed cells axis i) is
+          ∙ ap (λ (r : ℕ). flux_at l donor r (fraction_at m axis donor).denominator closed cells axis i) (of_rates.rate axis donor three)
+          ∙ ap (λ (d : ℕ). flux_at l donor (rate_of (along rates axis) donor) d closed cells axis i) (of_rates.denominator axis donor three)) w
+      | inr less ↦ others a i u (λ e. below_itself a axis less e) w ∙ known a i less u w
+    ]
   where
-  at_most : (a b : ℕ) → a < b + 1 → a ≤ b
-  at_most a b h = omega arith
-  below_itself : (a b : ℕ) → a < b → a ≡ b → ⊥
-  below_itself a b h e = omega arith
-  three : axis < 3
-  three = omega (arith, sound.most)
+    at_most : (a b : ℕ) → a < b + 1 → a ≤ b
+    at_most a b h = omega arith
+
+    below_itself : (a b : ℕ) → a < b → a ≡ b → ⊥
+    below_itself a b h e = omega arith
+
+    three : axis < 3
+    three = omega (arith, sound.most)

@@ -30,16 +30,16 @@ side_at_most l axis false = omega arith
 pub side_number : (l : Layout) (axis : ℕ) (high : Bool) (j : List ℕ) → axis < 3 → slice_index j axis ≡ side_at l axis high → address (side_box l axis high) (with_along axis 0 j) ≡ face_number l axis j
 side_number l zero high j u e = ap (λ (n : ℕ). first_face l zero + n) (first (slice_index j 0) (side_at l zero high) (slice_index j 1) (slice_index j 2) (slice_index (face_extents l 0) 0) (slice_index (face_extents l 0) 1) e)
   where
-  first : (x s y z n m : ℕ) → x ≡ s → s + 0 + n * (0 + y + m * (0 + z)) ≡ x + n * (y + m * z)
-  first x s y z n m e = omega arith
+    first : (x s y z n m : ℕ) → x ≡ s → s + 0 + n * (0 + y + m * (0 + z)) ≡ x + n * (y + m * z)
+    first x s y z n m e = omega arith
 side_number l (suc zero) high j u e = ap (λ (n : ℕ). first_face l 1 + n) (second (slice_index j 0) (slice_index j 1) (side_at l 1 high) (slice_index j 2) (slice_index (face_extents l 1) 0) (slice_index (face_extents l 1) 1) e)
   where
-  second : (x y s z n m : ℕ) → y ≡ s → 0 + x + n * (s + 0 + m * (0 + z)) ≡ x + n * (y + m * z)
-  second x y s z n m e = rw e (omega arith)
+    second : (x y s z n m : ℕ) → y ≡ s → 0 + x + n * (s + 0 + m * (0 + z)) ≡ x + n * (y + m * z)
+    second x y s z n m e = rw e (omega arith)
 side_number l (suc (suc zero)) high j u e = ap (λ (n : ℕ). first_face l 2 + n) (third (slice_index j 0) (slice_index j 1) (slice_index j 2) (side_at l 2 high) (slice_index (face_extents l 2) 0) (slice_index (face_extents l 2) 1) e)
   where
-  third : (x y z s n m : ℕ) → z ≡ s → 0 + x + n * (0 + y + m * (s + 0)) ≡ x + n * (y + m * z)
-  third x y z s n m e = rw e (omega arith)
+    third : (x y z s n m : ℕ) → z ≡ s → 0 + x + n * (0 + y + m * (s + 0)) ≡ x + n * (y + m * z)
+    third x y z s n m e = rw e (omega arith)
 side_number l (suc (suc (suc _))) high j u e = absurd (omega arith)
 
 pub side_within : (l : Layout) (axis : ℕ) (j : List ℕ) → axis < 3 → IsWithin (face_extents l axis) j → IsWithin (side_extents l axis) (with_along axis 0 j)
@@ -74,7 +74,7 @@ open_face l axis high i j sound u w apart z = λ e.
     let v : axis < 3 = omega (arith, sound.most) in
     let same = one_index l axis j (added (side_low l axis high) i) sound u w (side_face l axis high i v z) e in
     is_other (slice_index j axis) (side_at l axis high) apart
-        (same_along axis j (added (side_low l axis high) i) v same.along1 same.along2 same.along3 ∙ side_coordinate l axis high i v z)
+    (same_along axis j (added (side_low l axis high) i) v same.along1 same.along2 same.along3 ∙ side_coordinate l axis high i v z)
 
 -- nor is a face of another axis
 pub other_side_face : (l : Layout) (axis other : ℕ) (high : Bool) (i j : List ℕ) → IsLayout l.dims l.cells → axis < l.dims → other < l.dims → other ≢ axis → IsWithin (face_extents l other) j → IsWithin (side_extents l axis) i

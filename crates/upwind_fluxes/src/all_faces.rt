@@ -61,8 +61,26 @@ pub fn fluxes_by(
     let greatest = greatest_bits(cells);
     for axis in 0..layout.dims {
         let upwards = multipliers.along(axis, Donor::Below);
-        fluxes_along(layout, axis, Donor::Below, &upwards, greatest, closed, cells, right);
+        fluxes_along(
+            layout,
+            axis,
+            Donor::Below,
+            &upwards,
+            greatest,
+            closed,
+            cells,
+            right,
+        );
         let downwards = multipliers.along(axis, Donor::Above);
-        fluxes_along(layout, axis, Donor::Above, &downwards, greatest, closed, cells, left);
+        fluxes_along(
+            layout,
+            axis,
+            Donor::Above,
+            &downwards,
+            greatest,
+            closed,
+            cells,
+            left,
+        );
     }
 }

@@ -18,7 +18,11 @@ pub(crate) fn extents_of(layout: &Layout, axis: u32) -> [usize; 3]
     requires { axis < layout.now.dims }
     ensures { result ≡ face_extents layout.now axis }
 {
-    let mut extents = [layout.cells[0] as usize, layout.cells[1] as usize, layout.cells[2] as usize];
+    let mut extents = [
+        layout.cells[0] as usize,
+        layout.cells[1] as usize,
+        layout.cells[2] as usize,
+    ];
     extents[axis as usize] += 1;
     extents
 }
@@ -28,7 +32,11 @@ fn beside(layout: &Layout, axis: u32, donor: Donor) -> BoxIn
     requires { axis < layout.now.dims }
     ensures { result ≡ cells_beside layout.now axis donor }
 {
-    let mut low = [layout.ghost_layers(0), layout.ghost_layers(1), layout.ghost_layers(2)];
+    let mut low = [
+        layout.ghost_layers(0),
+        layout.ghost_layers(1),
+        layout.ghost_layers(2),
+    ];
     if donor == Donor::Below {
         low[axis as usize] -= 1;
     }

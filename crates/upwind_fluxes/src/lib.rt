@@ -15,7 +15,6 @@ mod multipliers;
 mod portion_row;
 mod rates;
 mod sides;
-
 #[cfg(test)]
 mod tests;
 

@@ -14,6 +14,7 @@ pub struct PortionRow<P> {
 
 impl<P: Portions> RowMap for PortionRow<P> {
     ghost gives = { λ s n. portion n (P.rate s.portions) (P.denominator s.portions) };
+
     ghost greatest = { λ s. P.greatest s.portions };
 
     fn map_row(&self, from: &[u64], into: &mut [u64]) {

@@ -33,7 +33,11 @@ fn extents_at(layout: &Layout, side: Side) -> [usize; 3]
     requires { side.axis < layout.now.dims }
     ensures { result ≡ side_extents layout.now side.axis }
 {
-    let mut extents = [layout.cells[0] as usize, layout.cells[1] as usize, layout.cells[2] as usize];
+    let mut extents = [
+        layout.cells[0] as usize,
+        layout.cells[1] as usize,
+        layout.cells[2] as usize,
+    ];
     extents[side.axis as usize] = 1;
     extents
 }

@@ -15,7 +15,7 @@ push-requires c =
     let few = few_numbers c.args.leaves.now c.args.dims c.args.side.axis (not c.args.side.high) c.args.over.now c.requires.least c.requires.most c.requires.used in
     let all : List ℕ = map f (filter p (range_with_len 0 c.parts-j-end.result)) in
     let same : map (leaf_number c.args.leaves.now) (map (child c.args.dims c.args.over.now) (children_at c.args.dims c.args.side.axis (not c.args.side.high))) ≡ all =
-        map_twice (leaf_number c.args.leaves.now) (child c.args.dims c.args.over.now) (children_at c.args.dims c.args.side.axis (not c.args.side.high)) ∙ sym (ap (λ v. map f (filter p (range_with_len 0 v))) c.parts-j-end.ensures.value) in
+    map_twice (leaf_number c.args.leaves.now) (child c.args.dims c.args.over.now) (children_at c.args.dims c.args.side.axis (not c.args.side.high)) ∙ sym (ap (λ v. map f (filter p (range_with_len 0 v))) c.parts-j-end.ensures.value) in
     chosen_room p f c.loop-j.fine all c.loop-j.j c.parts-j-end.result 4 c.loop-j-test.true c.loop-j.invariant (subst (λ (v : List ℕ). length v ≤ 4) same few) (sym c.is_near.ensures ∙ c.if-is_near.true)
 
 pub loop-j-preserved : goal.loop-j-preserved

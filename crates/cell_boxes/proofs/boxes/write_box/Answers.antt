@@ -5,12 +5,12 @@ use Rattle.cell_boxes.proofs.boxes.write_box.Goals as goal
 pub returns-clause-inside : goal.returns-clause-inside
 returns-clause-inside g c = λ i w.
     rw (c.write_planes.ensures, c.planes_in-from_planes.ensures, c.planes_in-into_planes.ensures)
-        (box-inside (g.R.RowMap.gives c.args.op.now) c.args.extents c.args.from.now c.args.from_box c.args.into_box c.args.into.now i c.requires.cells c.requires.from c.requires.into w)
+    (box-inside (g.R.RowMap.gives c.args.op.now) c.args.extents c.args.from.now c.args.from_box c.args.into_box c.args.into.now i c.requires.cells c.requires.from c.requires.into w)
 
 pub returns-clause-outside : goal.returns-clause-outside
 returns-clause-outside g c = λ n off.
     rw (c.write_planes.ensures, c.planes_in-from_planes.ensures, c.planes_in-into_planes.ensures)
-        (box-outside (g.R.RowMap.gives c.args.op.now) c.args.extents c.args.from.now c.args.from_box c.args.into_box c.args.into.now n c.requires.cells c.requires.from c.requires.into off)
+    (box-outside (g.R.RowMap.gives c.args.op.now) c.args.extents c.args.from.now c.args.from_box c.args.into_box c.args.into.now n c.requires.cells c.requires.from c.requires.into off)
 
 pub write_planes-requires-clause-from : goal.write_planes-requires-clause-from
 write_planes-requires-clause-from g c = rw c.planes_in-from_planes.ensures (rows_fit c.args.extents c.args.from_box (length c.args.from.now) c.requires.cells c.requires.from)

@@ -11,5 +11,5 @@ returns-clause-along c = λ i w.
     let high = is_closed_side c.args.closed.now c.args.axis true && is_at_side l c.args.axis true i in
     let x = portion (donor_total l c.args.donor c.args.cells.now c.args.axis i) c.args.fraction.now.rate c.args.fraction.now.denominator in
     c.close_if-2.ensures.along i w
-        ∙ ap (λ (n : ℕ). cond high 0 n) (c.close_if.ensures.along i w ∙ ap (λ (n : ℕ). cond low 0 n) (c.write_direction.ensures.along i w))
-        ∙ closed_at_either low high x
+    ∙ ap (λ (n : ℕ). cond high 0 n) (c.close_if.ensures.along i w ∙ ap (λ (n : ℕ). cond low 0 n) (c.write_direction.ensures.along i w))
+    ∙ closed_at_either low high x
