@@ -1,5 +1,5 @@
 -- Which blocks hold which fields: for each field a list with an entry for each block.
-use Rattle.std.specs.Prelude.{◌<◌, ℕ, Bool, false, true, List, [], length, replicate, count_by, slice_index_or, slice_set}
+use Rattle.std.specs.Prelude.{◌<◌, ℕ, Bool, false, List, [], length, replicate, count_by, slice_index_or, slice_set}
 use Rattle.sparse_pool.specs.declared.place.Place.{Place}
 
 -- the blocks that hold a field
