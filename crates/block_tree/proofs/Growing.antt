@@ -1,6 +1,5 @@
 -- Lists that are grown piece by piece.
-use Rattle.std.proofs.Common.{◌≡◌, ◌⊎◌, inl, inr, ℕ, zero, suc, ◌+◌, ◌-◌, ◌*◌, ◌/◌, ◌%◌, ◌^◌, ◌<◌, ◌≤◌, Bool, true, false, cond, List, [], ◌∷◌, ◌++◌, length, drop, get_or, refl, arith, ap, subst, sym, ◌∙◌, append_assoc, length-append}
-use Rattle.std.proofs.Math.Seq.{drop-cons}
+use Rattle.std.proofs.Common.{◌≡◌, ◌⊎◌, inl, inr, ℕ, zero, suc, ◌+◌, ◌-◌, ◌*◌, ◌/◌, ◌%◌, ◌^◌, ◌<◌, ◌≤◌, Bool, true, false, cond, List, [], ◌∷◌, ◌++◌, length, refl, arith, ap, subst, sym, ◌∙◌, append_assoc, length-append}
 use Rattle.std.specs.Bool.{MatchBool}
 use Rattle.std.proofs.Math.Nat.{mul-le-mul_right, pow-suc}
 use Rattle.std.proofs.lemmas.Bool.{false≢true}
@@ -86,27 +85,6 @@ roots_over s k x y z j most false old now next some inside less h e over =
     subst (λ (v : List Loc). most < length (old ++ v)) (sym (roots_deep s k x y z some inside))
     (flat_over (λ i. roots_in (k - 1) s (2 * x + i % 2) (2 * y + i / 2 % 2) (2 * z + i / 4)) now (old ++ flat_map (λ i. roots_in (k - 1) s (2 * x + i % 2) (2 * y + i / 2 % 2) (2 * z + i / 4)) (range_with_len 0 8)) j 8 most less h over)
 
-pub roots_too_many : (b : Bool) (most : ℕ) (now next piece : List Loc) → b ≡ false → MatchBool b (next ≡ now ++ piece) (most < length (now ++ piece)) → most < length (now ++ piece)
-roots_too_many true most now next piece e h = absurd (false≢true (sym e))
-roots_too_many false most now next piece e h = h
-
 pub roots_more : (b : Bool) (most : ℕ) (now next piece : List Loc) → b ≡ true → MatchBool b (next ≡ now ++ piece) (most < length (now ++ piece)) → next ≡ now ++ piece
 roots_more true most now next piece e h = h
 roots_more false most now next piece e h = absurd (false≢true e)
-
--- lists that are grown root by root
-pub root_step : (f : Loc → List Loc) (xs now next all : List Loc) (i : ℕ) (d : Loc) → i < length xs → now ++ flat_map f (drop i xs) ≡ all → next ≡ now ++ f (get_or xs i d) → next ++ flat_map f (drop (i + 1) xs) ≡ all
-root_step f xs now next all i d less h is =
-    let x : Loc = get_or xs i d in
-    let e : i + 1 ≡ suc i = omega arith in
-    let split : drop i xs ≡ x ∷ drop (i + 1) xs = drop-cons xs i d less ∙ ap (λ v. x ∷ drop v xs) (sym e) in
-    ap (λ (v : List Loc). v ++ flat_map f (drop (i + 1) xs)) is ∙ append_assoc now (f x) (flat_map f (drop (i + 1) xs)) ∙ sym (ap (λ (v : List Loc). now ++ flat_map f v) split) ∙ h
-
-pub root_end : (f : Loc → List Loc) (xs now all : List Loc) (i : ℕ) → length xs ≤ i → now ++ flat_map f (drop i xs) ≡ all → now ≡ all
-root_end f xs now all i past h = sym (append_nil now) ∙ sym (ap (λ (v : List Loc). now ++ flat_map f v) (drop_all xs i past)) ∙ h
-  where
-    drop_all : (xs : List Loc) (i : ℕ) → length xs ≤ i → drop i xs ≡ []
-    drop_all [] zero h = refl
-    drop_all [] (suc i) h = refl
-    drop_all (x ∷ xs) zero h = absurd (omega arith)
-    drop_all (x ∷ xs) (suc i) h = drop_all xs i (omega arith)

@@ -1,6 +1,6 @@
 -- The listed leaves of a tree are all its leaves, in the order of their keys.
 use Rattle.std.proofs.Common.{◌≡◌, inl, inr, ℕ, zero, suc, ◌+◌, ◌-◌, ◌*◌, ◌/◌, ◌%◌, ◌^◌, ◌<◌, ◌≤◌, Bool, true, false, cond, ◌&&◌, nat_lt, List, [], ◌∷◌, ◌++◌, map, slice_index, refl, arith, ap, subst, sym, ◌∙◌, append_assoc, lit<}
-use Rattle.std.specs.List.{AllByRecursion, IsDistinct, flat_map, list_any, range_with_len}
+use Rattle.std.specs.List.{flat_map, list_any, range_with_len}
 use Rattle.std.specs.List.Sorted.{IsStrictlyIncreasing}
 use Rattle.std.proofs.Math.Nat.{div-div-eq-div-mul, div-mul-le_self, one-le-pow, pow-suc, pow-zero}
 use Rattle.std.proofs.lemmas.Nat.{mul-le}
@@ -263,21 +263,6 @@ increasing a b (l ∷ m ∷ ls) r (suc k) small =
 rising_leaves : (s : Shape) (inner : Loc → Bool) → IsShape s → IsStrictlyIncreasing (map key (leaves_of s inner))
 unfolding leaves_of roots
 rising_leaves s inner shape = increasing _ _ (cube_leaves s inner (roots_in 16 s 0 0 0)) (rising_roots s inner shape 16 0 0 0 0 refl)
-
--- the leaves do not repeat
-apart_rising : (low high : ℕ) (l : Loc) (ls : List Loc) → key l < low → Rises low high ls → AllByRecursion (λ m. same_loc l m ≡ false) ls
-apart_rising low high l [] h r = tt
-apart_rising low high l (m ∷ ls) h r =
-    let first = r.0 in (fails (same_loc l m) (λ is. let e : key l ≡ key m = ap key (same_loc-is l m is) in absurd (omega arith)), apart_rising (key m + 1) high l ls (omega arith) r.1)
-
-distinct_rising : (low high : ℕ) (ls : List Loc) → Rises low high ls → IsDistinct same_loc ls
-unfolding IsDistinct
-distinct_rising low high [] r = tt
-distinct_rising low high (l ∷ ls) r = (apart_rising (key l + 1) high l ls (omega arith) r.1, distinct_rising (key l + 1) high ls r.1)
-
-pub distinct_leaves : (s : Shape) (inner : Loc → Bool) → IsShape s → IsDistinct same_loc (leaves_of s inner)
-unfolding leaves_of roots
-distinct_leaves s inner shape = distinct_rising _ _ (cube_leaves s inner (roots_in 16 s 0 0 0)) (rising_roots s inner shape 16 0 0 0 0 refl)
 
 -- an item of a list whose list passes
 pub any_append_left : (p : Loc → Bool) (xs ys : List Loc) → list_any p xs ≡ true → list_any p (xs ++ ys) ≡ true

@@ -13,7 +13,3 @@ pub mod Worklist
 pub mod Growing
 pub mod Counting
 pub mod InnerList
-mod Sights
-mod Distinct
-mod Whole
-mod BoxesUp

@@ -50,7 +50,7 @@ double_width level h k = let e : 10 - (level - 1) ≡ suc (10 - level) = omega a
 two : (dims axis : ℕ) → axis < dims → factor dims axis ≡ 2
 two dims axis h = ap (λ (b : Bool). cond b 2 1) (lt-ltb axis dims h)
 
-pub parent_axis : (dims : ℕ) (c : Loc) (axis : ℕ) → axis < dims → dims ≤ 3 → axis_of (parent dims c) axis ≡ axis_of c axis / 2
+parent_axis : (dims : ℕ) (c : Loc) (axis : ℕ) → axis < dims → dims ≤ 3 → axis_of (parent dims c) axis ≡ axis_of c axis / 2
 parent_axis dims c zero h k = ap (λ v. c.l1 / v) (two dims 0 h)
 parent_axis dims c (suc zero) h k = ap (λ v. c.l2 / v) (two dims 1 h)
 parent_axis dims c (suc (suc a)) h k = ap (λ v. c.l3 / v) (two dims 2 (omega arith))

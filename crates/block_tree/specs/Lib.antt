@@ -1,13 +1,10 @@
-pub mod Built
 pub mod Change
 pub mod Around
 pub mod Behind
 pub mod Leaves
-pub mod FineList
 pub mod Least
 pub mod Next
 pub mod Nodes
-pub mod Table
 pub mod Tree
 pub mod Worked
 pub mod Worklist

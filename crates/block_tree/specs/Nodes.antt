@@ -11,8 +11,3 @@ with_node ls l = cond (is_listed ls l) ls (ls ++ l ∷ [])
 -- the number of a location in a list, none where it is not listed
 abbrev pub number_in : List Loc → Loc → Option ℕ
 number_in ls l = position (same_loc l) ls
-
--- one location after another
-abbrev pub with_nodes : List Loc → List Loc → List Loc
-with_nodes ls [] = ls
-with_nodes ls (x ∷ xs) = with_nodes (with_node ls x) xs

@@ -4,20 +4,11 @@
 
 mod balance;
 mod boxes;
-mod faults;
 mod grow;
 mod laws;
 mod nodes;
-mod table;
 mod tags;
-mod trees;
 
 pub use boxes::StaticBox;
-pub use faults::TreeFault;
-pub use laws::{
-    behind_laws, change_law, inner_nodes_law, least_tree_law, leaves_law, next_tree_laws,
-    worked_trees,
-};
-pub use table::{Behind, FineLeaves};
+pub use laws::{behind_laws, change_law, inner_nodes_law, least_tree_law, leaves_law, next_tree_laws, worked_trees};
 pub use tags::Tag;
-pub use trees::Tree;

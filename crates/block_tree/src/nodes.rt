@@ -4,7 +4,7 @@ ghost use Rattle.std.specs.Prelude.{◌≡◌, [], IfOk, length, slice_get};
 ghost use Rattle.std.specs.List.{IsDistinct};
 ghost use Rattle.morton_order.specs.Space.{same_loc};
 ghost use Rattle.block_tree.specs.Tree.{is_listed};
-ghost use Rattle.block_tree.specs.Nodes.{number_in, with_node, with_nodes};
+ghost use Rattle.block_tree.specs.Nodes.{number_in, with_node};
 
 use indexmap::IndexSet;
 use morton_order::Loc;
@@ -33,17 +33,6 @@ impl Nodes {
     {
         let places = IndexSet::with_capacity(alloc, room)?;
         Ok(Nodes { places })
-    }
-
-    /// The set of some locations, in the order in which each comes first.
-    pub(crate) fn of(alloc: Global, places: &[Loc]) -> Result<Nodes, AllocError>
-        ensures { IfOk result (λ nodes. nodes ≡ with_nodes [] places.now) }
-    {
-        let mut nodes = Nodes::with_capacity(alloc, places.len())?;
-        for at in places {
-            nodes.insert(*at)?;
-        }
-        Ok(nodes)
     }
 
     /// How many locations the set has.
