@@ -20,9 +20,15 @@ struct Case {
     cells: [[u64; 2]; 4],
 }
 
+/// The slots of the four blocks, of two fields each.
+#[derive(Clone, Copy)]
+struct Slots {
+    at: [[Slot; 2]; 4],
+}
+
 #[derive(Drop)]
 struct Row {
-    slots: [[Slot; 2]; 4],
+    slots: Slots,
     given: [u64; 4],
     out: [bool; 4],
     sent: u64,
@@ -196,8 +202,8 @@ fn may_take(row: &Row, i: usize) -> bool
 fn send(row: &mut Row, i: usize, to: usize, high: bool, round: u64) -> Result<(), Fail>
     requires { i < 4 }
 {
-    let first = lent_cell(&row.slots[i][0]);
-    let second = lent_cell(&row.slots[i][1]);
+    let first = lent_cell(&row.slots.at[i][0]);
+    let second = lent_cell(&row.slots.at[i][1]);
     let number = row.sent;
     row.sent = number.wrapping_add(1);
     let block = to as u64;
@@ -233,7 +239,7 @@ fn fill_place(case: &Case, row: &mut Row, i: usize, f: usize, round: u64)
     let high = part_of(mail, round, i as u64, true);
     let low = if i == 0 { case.inflow[f] } else { sent_low };
     let calls = low > case.above || high > case.above;
-    row.slots[i][f] = fill(row.slots[i][f], low, high, i == 0 && low > 0, calls);
+    row.slots.at[i][f] = fill(row.slots.at[i][f], low, high, i == 0 && low > 0, calls);
 }
 
 fn give(case: &Case, row: &mut Row, i: usize) -> Result<(), Fail>
@@ -250,37 +256,37 @@ fn give(case: &Case, row: &mut Row, i: usize) -> Result<(), Fail>
         }
     }
     if given == 12 {
-        let first = lent_cell(&row.slots[i][0]);
-        let second = lent_cell(&row.slots[i][1]);
+        let first = lent_cell(&row.slots.at[i][0]);
+        let second = lent_cell(&row.slots.at[i][1]);
         if first >= 1 << 60 || second >= 1 << 60 {
             return Err("a cell is too large")?;
         }
         let (to_first, to_second) = turn(first, second);
-        if !is_small(&row.slots[i][0])
-            || !is_small(&row.slots[i][1])
+        if !is_small(&row.slots.at[i][0])
+            || !is_small(&row.slots.at[i][1])
             || to_first >= 1 << 61
             || to_second >= 1 << 61
         {
             return Err("a slot is too large")?;
         }
-        row.slots[i][0] = react(row.slots[i][0], case.above, to_first);
-        row.slots[i][1] = react(row.slots[i][1], case.above, to_second);
+        row.slots.at[i][0] = react(row.slots.at[i][0], case.above, to_first);
+        row.slots.at[i][1] = react(row.slots.at[i][1], case.above, to_second);
     }
     for f in 0..2usize {
-        let slot = row.slots[i][f];
+        let slot = row.slots.at[i][f];
         if !is_small(&slot) {
             return Err("a slot is too large")?;
         }
         if given == 14 {
-            row.slots[i][f] = check(slot, case.idle_at, case.limit);
+            row.slots.at[i][f] = check(slot, case.idle_at, case.limit);
         } else if given < 12 && given % 6 == 1 {
             fill_place(case, row, i, f, round);
         } else if given < 12 && given % 6 == 2 {
-            row.slots[i][f] = flux(slot);
+            row.slots.at[i][f] = flux(slot);
         } else if given < 12 && given % 6 == 5 {
-            row.slots[i][f] = update(slot);
+            row.slots.at[i][f] = update(slot);
         } else if given != 12 {
-            row.slots[i][f] = release(slot);
+            row.slots.at[i][f] = release(slot);
         }
     }
     if given < 12 && given % 6 == 1 {
@@ -299,8 +305,8 @@ fn deliver(row: &mut Row, at: usize) -> Result<(), Fail>
 {
     let (first, second) = row.wire.swap_remove(at);
     let b = (first.block % 4) as usize;
-    row.slots[b][0] = come(row.slots[b][0], first.total);
-    row.slots[b][1] = come(row.slots[b][1], second.total);
+    row.slots.at[b][0] = come(row.slots.at[b][0], first.total);
+    row.slots.at[b][1] = come(row.slots.at[b][1], second.total);
     row.mail.push(first)?;
     row.second_mail.push(second)?;
     Ok(())
@@ -316,8 +322,8 @@ fn try_event(case: &Case, row: &mut Row, drawn: u64) -> Result<(), Fail> {
     if drawn % 3 == 0 {
         if may_take(row, i) {
             row.out[i] = true;
-            row.slots[i][0] = take(row.slots[i][0], true);
-            row.slots[i][1] = take(row.slots[i][1], true);
+            row.slots.at[i][0] = take(row.slots.at[i][0], true);
+            row.slots.at[i][1] = take(row.slots.at[i][1], true);
         }
         Ok(())
     } else if drawn % 3 == 1 {
@@ -344,7 +350,9 @@ fn run_by_chance(rt: &HostRuntime, case: &Case, seed: u64) -> Result<Row, Fail> 
     };
     let alloc = rt.alloc();
     let mut row = Row {
-        slots: [[empty; 2]; 4],
+        slots: Slots {
+            at: [[empty; 2]; 4],
+        },
         given: [0; 4],
         out: [false; 4],
         sent: 0,
@@ -354,7 +362,7 @@ fn run_by_chance(rt: &HostRuntime, case: &Case, seed: u64) -> Result<Row, Fail> 
     };
     for b in 0..4usize {
         for f in 0..2usize {
-            row.slots[b][f] = first_slot(case, b, f);
+            row.slots.at[b][f] = first_slot(case, b, f);
         }
     }
     let mut state = seed;
@@ -373,7 +381,7 @@ fn run_by_chance(rt: &HostRuntime, case: &Case, seed: u64) -> Result<Row, Fail> 
 fn has_ended_as(row: &Row, run: &Run) -> bool {
     for b in 0..4usize {
         for f in 0..2usize {
-            let slot = row.slots[b][f];
+            let slot = row.slots.at[b][f];
             let cell = match slot.buffer {
                 Some(buffer) => buffer.cell,
                 None => 0,
