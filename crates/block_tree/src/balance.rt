@@ -52,7 +52,12 @@ fn add_around(alloc: Global, at: &Loc, shape: &Shape, nodes: &mut Nodes) -> Resu
 /// Adds to some inner nodes all those that a balanced tree with them must have, one location after another.
 ///
 /// Answers whether the set is whole; it gives up once it has more nodes than `most`.
-pub(crate) fn balance(alloc: Global, shape: &Shape, most: usize, nodes: &mut Nodes) -> Result<bool, AllocError>
+pub(crate) fn balance(
+    alloc: Global,
+    shape: &Shape,
+    most: usize,
+    nodes: &mut Nodes,
+) -> Result<bool, AllocError>
     requires shape { IsShape shape.now }
     requires roomy { AreRoomy shape.now nodes.old }
     ensures whole { IfOk result (λ whole. MatchBool whole (IsLeast shape.now (is_listed nodes.old) (is_listed nodes.new)) (most < length nodes.new)) }

@@ -30,7 +30,14 @@ fn begins_inside(shape: &Shape, k: u32, x: u32, y: u32, z: u32) -> bool
 /// Puts the root blocks in a cube of `2^k` along each axis at the end of a list, in the order of their keys.
 ///
 /// Answers whether it came to the end: it gives up where the list would have more locations than a tree has leaves.
-pub(crate) fn push_roots(shape: &Shape, k: u32, x: u32, y: u32, z: u32, roots: &mut Vec<Loc>) -> Result<bool, AllocError>
+pub(crate) fn push_roots(
+    shape: &Shape,
+    k: u32,
+    x: u32,
+    y: u32,
+    z: u32,
+    roots: &mut Vec<Loc>,
+) -> Result<bool, AllocError>
     requires few { k ≤ 16 }
     requires x { (x + 1) * 2 ^ k ≤ 65536 }
     requires y { (y + 1) * 2 ^ k ≤ 65536 }
@@ -53,7 +60,14 @@ pub(crate) fn push_roots(shape: &Shape, k: u32, x: u32, y: u32, z: u32, roots: &
         return Ok(true);
     }
     for j in 0..8 {
-        if !push_roots(shape, k - 1, 2 * x + j % 2, 2 * y + j / 2 % 2, 2 * z + j / 4, roots)? {
+        if !push_roots(
+            shape,
+            k - 1,
+            2 * x + j % 2,
+            2 * y + j / 2 % 2,
+            2 * z + j / 4,
+            roots,
+        )? {
             return Ok(false);
         }
     }

@@ -10,5 +10,8 @@ mod nodes;
 mod tags;
 
 pub use boxes::StaticBox;
-pub use laws::{behind_laws, change_law, inner_nodes_law, least_tree_law, leaves_law, next_tree_laws, worked_trees};
+pub use laws::{
+    behind_laws, change_law, inner_nodes_law, least_tree_law, leaves_law, next_tree_laws,
+    worked_trees,
+};
 pub use tags::Tag;

@@ -16,10 +16,16 @@ push_roots-requires t c =
     let some : 1 ≤ c.args.k = omega arith in
     let less : c.loop-j.j < 8 = c.loop-j-test.true in (
       omega arith,
-      (omega arith,
-      (half_cube c.args.x (c.loop-j.j % 2) c.args.k some (omega arith) c.requires.x,
-      (half_cube c.args.y (c.loop-j.j / 2 % 2) c.args.k some (omega arith) c.requires.y,
-      half_cube c.args.z (c.loop-j.j / 4) c.args.k some (omega arith) c.requires.z))),
+      (
+        omega arith,
+        (
+          half_cube c.args.x (c.loop-j.j % 2) c.args.k some (omega arith) c.requires.x,
+          (
+            half_cube c.args.y (c.loop-j.j / 2 % 2) c.args.k some (omega arith) c.requires.y,
+            half_cube c.args.z (c.loop-j.j / 4) c.args.k some (omega arith) c.requires.z,
+          ),
+        ),
+      ),
     )
 
 pub returns-then-not-branch : goal.returns-then-not-branch
@@ -39,8 +45,10 @@ loop-j-preserved t c =
 pub returns : goal.returns
 returns t c =
     let inside : begins_inside c.args.shape.now c.args.k c.args.x c.args.y c.args.z ≡ true = cc in
-    record { whole =
-      flat_end (λ j. roots_in (c.args.k - 1) c.args.shape.now (2 * c.args.x + j % 2) (2 * c.args.y + j / 2 % 2) (2 * c.args.z + j / 4)) c.loop-j.roots.items
-      (c.args.roots.now.items ++ flat_map (λ j. roots_in (c.args.k - 1) c.args.shape.now (2 * c.args.x + j % 2) (2 * c.args.y + j / 2 % 2) (2 * c.args.z + j / 4)) (range_with_len 0 8))
-      c.loop-j.j 8 (omega arith) c.loop-j.invariant
-      ∙ ap (λ (v : List Loc). c.args.roots.now.items ++ v) (sym (roots_deep c.args.shape.now c.args.k c.args.x c.args.y c.args.z (omega arith) inside)) }
+    record {
+      whole =
+          flat_end (λ j. roots_in (c.args.k - 1) c.args.shape.now (2 * c.args.x + j % 2) (2 * c.args.y + j / 2 % 2) (2 * c.args.z + j / 4)) c.loop-j.roots.items
+          (c.args.roots.now.items ++ flat_map (λ j. roots_in (c.args.k - 1) c.args.shape.now (2 * c.args.x + j % 2) (2 * c.args.y + j / 2 % 2) (2 * c.args.z + j / 4)) (range_with_len 0 8))
+          c.loop-j.j 8 (omega arith) c.loop-j.invariant
+          ∙ ap (λ (v : List Loc). c.args.roots.now.items ++ v) (sym (roots_deep c.args.shape.now c.args.k c.args.x c.args.y c.args.z (omega arith) inside));
+    }
