@@ -1,7 +1,7 @@
--- The states of a run on one tree are fit.
-use Rattle.std.proofs.Common.{◌≡◌, ◌==◌, ℕ, zero, suc, ◌+◌, ◌-◌, ◌%◌, ◌<◌, ◌≤◌, Bool, true, false, cond, ◌&&◌, ◌||◌, not, nat_lt, nat_le, min, List, [], ◌∷◌, length, map, replicate, All, refl, sym, ap, ◌∙◌, subst, arith, ⊎_elim}
+-- The state with which a run opens fits, and one that fits still does after a cycle on the same tree.
+use Rattle.std.proofs.Common.{◌≡◌, ℕ, zero, suc, ◌+◌, ◌<◌, ◌≤◌, Bool, true, false, cond, ◌||◌, not, nat_lt, List, [], ◌∷◌, length, map, replicate, All, refl, sym, ap, ◌∙◌, subst, arith, ⊎_elim}
 use Rattle.std.specs.Prelude.{slice_index}
-use Rattle.std.specs.List.{enumerate_from, list_any, position_or_len, range_with_len, slice_index_or}
+use Rattle.std.specs.List.{enumerate_from, slice_index_or}
 use Rattle.std.specs.List.Sorted.{IsStrictlyIncreasing}
 use Rattle.std.proofs.lemmas.Bool.{cases_lt, false≢true}
 use Rattle.std.proofs.lemmas.Bool.Decides.{nat_tests}
@@ -10,12 +10,10 @@ use Rattle.std.proofs.lemmas.List.Elements.{All-from_get_or}
 use Rattle.std.proofs.lemmas.List.FromFn.{length-map-range_with_len}
 use Rattle.morton_order.specs.declared.space.Loc.{Loc}
 use Rattle.morton_order.specs.Key.{key}
-use Rattle.morton_order.specs.Space.{same_loc}
-use Rattle.package_fields.specs.Kernel.{KernelLaws, Reacted}
+use Rattle.package_fields.specs.Kernel.{Reacted}
 use Rattle.problem_set.specs.Settings.{Settings}
 use Rattle.problem_set.specs.declared.problem.Problem.{Problem}
 use Rattle.problem_set.specs.SettingsOf.{settings_of}
-use Rattle.block_tree.specs.Leaves.{leaves_of}
 use Rattle.block_tree.proofs.KeyOrder.{leaves_law}
 use Rattle.mesh_rules.specs.declared.wish.Wish.{Wish}
 use Rattle.mesh_rules.specs.declared.wish.Wish.TheVariants.{Refine, Same, Derefine}
@@ -23,20 +21,16 @@ use Rattle.mesh_rules.specs.Sums.{table}
 use Rattle.mesh_rules.specs.Mesh.{IsMesh, Mesh, block_of, block_size, cell_at, is_inner, leaf_number, place_of, stored, totals_on}
 use Rattle.mesh_rules.specs.Fields.{field_count, is_sparse}
 use Rattle.mesh_rules.specs.Tags.{counted, counters_after, wish}
-use Rattle.mesh_rules.specs.Remesh.{next_tree}
 use Rattle.mesh_rules.specs.Mask.{Mask, Slot, absent, called, cut, has_above, kept_by_check, slot_at, stays}
-use Rattle.mesh_rules.specs.Cycle.{State, checked, counters_of, reacted_to, settled, tags_of}
+use Rattle.mesh_rules.specs.Cycle.{State, reacted_to, settled}
 use Rattle.mesh_rules.specs.Opening.{opening_mesh, opening_state}
-use Rattle.mesh_rules.specs.Run.{Outcome, Reached, end_on_tree, is_adaptive, next_outcome, opened, reached, run, run_from, running, start_of, too_many_at, too_many_at_start}
-use Rattle.mesh_rules.specs.Fit.{IsFit, IsMaskOf, IsMeshOf}
-use Rattle.mesh_laws.proofs.Fillings.{Numbered, number_of, place_of_cell}
+use Rattle.mesh_rules.specs.Fit.{IsMeshOf}
+use Rattle.mesh_laws.proofs.Fillings.{number_of, place_of_cell}
 use Rattle.morton_order.proofs.Any.{any_range-has}
 use Rattle.mesh_laws.proofs.LeafSums.{block_of_cell}
-use Rattle.run_laws.specs.FitLaws.{FixedRunsAreFit}
 use Rattle.run_laws.specs.MaskLaws.{FitsSlot, MaskFits}
 use Rattle.run_laws.proofs.CycleMeshes.{OnTreeOf, on_reacted}
-use Rattle.run_laws.proofs.RunBounds.{runs_stay}
-use Rattle.run_laws.proofs.RunTrees.{comes_from, mapped, run_stands, settled_is, starts_from, table_at}
+use Rattle.run_laws.proofs.RunTrees.{mapped, table_at}
 use Rattle.run_laws.proofs.Slots.{length_enumerated, masks_stay, opening_fits, origin, slot_masked}
 
 -- in a list that rises step by step each later item is greater
@@ -102,11 +96,11 @@ cut_zero q first m mask on fit leaf f inside within gone =
     ∙ ap (λ (b : Bool). cond b (stored m f (cell_at m l place)) 0) out))
 
 -- what the parts of a state keep
-record StateFits (q : Settings) (s : State) : Type 0 where
-  mask : MaskFits q s.mesh.leaves s.mask
-  zero_outside : (leaf f : ℕ) → leaf < length s.mesh.leaves → f < field_count q → (slot_at s.mask leaf f).kept ≡ false → All (λ total. total ≡ 0) (totals_on s.mesh leaf f)
-  counter_list : length s.counters ≡ length s.mesh.leaves
-  counters : All (λ count. count ≤ q.derefine_count) s.counters
+pub record StateFits (q : Settings) (s : State) : Type 0 where
+  pub mask : MaskFits q s.mesh.leaves s.mask
+  pub zero_outside : (leaf f : ℕ) → leaf < length s.mesh.leaves → f < field_count q → (slot_at s.mask leaf f).kept ≡ false → All (λ total. total ≡ 0) (totals_on s.mesh leaf f)
+  pub counter_list : length s.counters ≡ length s.mesh.leaves
+  pub counters : All (λ count. count ≤ q.derefine_count) s.counters
 
 -- what has no cell above zero is all zero
 is_nothing : (x : ℕ) → nat_lt 0 x ≡ false → x ≡ 0
@@ -168,7 +162,7 @@ none_length : (n : ℕ) → length {A = ℕ} (replicate n 0) ≡ n
 none_length n = let none : ℕ = 0 in length-replicate n none
 
 -- a cycle on the same tree
-settled_fits : (p : Problem) (react : List ℕ → Reacted) (s : State) → IsMeshOf (settings_of p) s.mesh → StateFits (settings_of p) s → StateFits (settings_of p) (settled (settings_of p) react s)
+pub settled_fits : (p : Problem) (react : List ℕ → Reacted) (s : State) → IsMeshOf (settings_of p) s.mesh → StateFits (settings_of p) s → StateFits (settings_of p) (settled (settings_of p) react s)
 settled_fits p react s of fit =
     let q = settings_of p in
     let h = reacted_to q react s in
@@ -183,49 +177,13 @@ settled_fits p react s of fit =
       counters = counters_within q h.mesh s.counters;
     }
 
--- a run whose tree does not change
-fixed_next : (q : Settings) (react : List ℕ → Reacted) (c : ℕ) (before r : Reached) → is_adaptive q.mode ≡ false → run q react c ≡ running before → run q react (suc c) ≡ running r → r ≡ reached q react before.state (settled q react before.state)
-unfolding run run_from
-fixed_next q react c before r fixed is e =
-    let next = ap (next_outcome q react (0 + suc c)) is
-    ∙ ap (λ (b : Bool). cond (b && (0 + suc c) % q.refine_every == 0) (end_on_tree q react (0 + suc c) before.state (settled q react before.state) (next_tree q before.state.mesh (tags_of q react before.state))) (running (reached q react before.state (settled q react before.state)))) fixed in
-    same_run _ r (sym next ∙ e)
-  where
-    same_run : (x y : Reached) → running x ≡ running y → y ≡ x
-    same_run x y k = cc
-
-fixed_fits : (p : Problem) (react : List ℕ → Reacted) → is_adaptive p.mode ≡ false → (c : ℕ) (r : Reached) → run (settings_of p) react c ≡ running r → StateFits (settings_of p) r.state
-fixed_fits p react fixed zero r e =
-    let q = settings_of p in
-    let is = starts_from p react r e in
-    let of : IsMeshOf q (opening_mesh q) = subst (λ (x : Reached). IsMeshOf q x.state.mesh) is (run_stands p react 0 r e) in
-    let n = length (opening_mesh q).leaves in
-    subst (λ (x : Reached). StateFits q x.state) (sym is) (record {
+-- the opening
+pub opened_fits : (p : Problem) → IsMeshOf (settings_of p) (opening_mesh (settings_of p)) → StateFits (settings_of p) (opening_state (settings_of p))
+opened_fits p of =
+    let n = length (opening_mesh (settings_of p)).leaves in
+    record {
       mask = opening_fits p;
       zero_outside = opening_zero p of;
       counter_list = none_length n;
       counters = no_counters n p.derefine_count;
-    })
-fixed_fits p react fixed (suc c) r e =
-    let q = settings_of p in
-    let from = comes_from q react c r e in
-    let is = fixed_next q react c from.before r fixed from.runs e in
-    subst (λ (x : Reached). StateFits q x.state) (sym is) (settled_fits p react from.before.state (run_stands p react c from.before from.runs) (fixed_fits p react fixed c from.before from.runs))
-
-pub fixed_runs_fit : FixedRunsAreFit
-fixed_runs_fit p react c r laws fixed more e =
-    let fit = fixed_fits p react fixed c r e in
-    record {
-      mesh = run_stands p react c r e;
-      mask = record {
-        leaf_slots = fit.mask.leaf_slots;
-        field_slots = fit.mask.field_slots;
-        always = λ leaf f inside within h. (fit.mask.slots leaf f inside within).always h;
-        zero = fit.zero_outside;
-        fresh = λ leaf f inside within h. (fit.mask.slots leaf f inside within).fresh h;
-        idle = λ leaf f inside within. (fit.mask.slots leaf f inside within).idle;
-      };
-      counter_list = fit.counter_list;
-      counters = fit.counters;
-      room = runs_stay p react c r laws more e;
     }

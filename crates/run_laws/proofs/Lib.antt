@@ -11,3 +11,6 @@ pub mod RunBounds
 pub mod Outside
 pub mod Slots
 pub mod Fits
+pub mod NextLeaves
+pub mod RemeshMasks
+pub mod RunFits

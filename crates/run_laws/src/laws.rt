@@ -1,7 +1,7 @@
 //! Laws of cycles and runs.
 
 ghost use Rattle.run_laws.specs.BoundLaws.{NoSumPassesTheBound, NoTotalFallsBelowZero, RunsStayWithin, SumGrowsByInflow};
-ghost use Rattle.run_laws.specs.FitLaws.{FixedRunsAreFit};
+ghost use Rattle.run_laws.specs.FitLaws.{RunsAreFit};
 ghost use Rattle.run_laws.specs.HistoryLaws.{CyclesBalance, HistoryBalances};
 ghost use Rattle.run_laws.specs.MaskLaws.{CyclesAreZeroOutside, MasksStayFit, OpeningMaskFits};
 ghost use Rattle.run_laws.specs.TreeLaws.{NextIsLeastTree, OpeningIsLeastTree, RunsStandOnTrees};
@@ -40,7 +40,7 @@ pub fn mask_laws()
     ensures cycles { MasksStayFit }
 {}
 
-/// Each state with which a cycle of a run on one tree starts is fit.
+/// Each state with which a cycle of a run starts is fit, remeshing included.
 pub fn fit_law()
-    ensures { FixedRunsAreFit }
+    ensures { RunsAreFit }
 {}
