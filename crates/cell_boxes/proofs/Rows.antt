@@ -1,9 +1,8 @@
 -- The rows of a box, and the addresses of its indices.
-use Rattle.std.proofs.Common.{◌≡◌, ◌≢◌, ◌⊎◌, ℕ, ◌+◌, ◌-◌, ◌*◌, ◌<◌, ◌≤◌, List, [], ◌∷◌, length, slice_index, sym, ◌∙◌, ap, subst, inl, inr, arith, ⊎_elim}
+use Rattle.std.proofs.Common.{◌≡◌, ◌≢◌, ℕ, ◌+◌, ◌-◌, ◌*◌, ◌<◌, ◌≤◌, List, [], ◌∷◌, length, slice_index, sym, ◌∙◌, ap, inl, inr, arith, ⊎_elim}
 use Rattle.std.proofs.lemmas.Bool.{cases_lt}
 use Rattle.block_layout.specs.Indices.{IsWithin, added, count_of, number_of}
 use Rattle.block_layout.proofs.Boxes.{number_below}
-use Rattle.strided_rows.specs.declared.planes.Planes.{Planes}
 use Rattle.strided_rows.specs.Written.{Apart, FitPlanes, IsOff, planes_written}
 use Rattle.strided_rows.proofs.Reading.{planes-inside, planes-outside}
 use Rattle.cell_boxes.specs.declared.boxes.BoxIn.{BoxIn}

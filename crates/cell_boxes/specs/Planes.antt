@@ -1,5 +1,5 @@
 -- For the code: the rows of a box.
-use Rattle.std.specs.Prelude.{ℕ, ◌+◌, ◌*◌, List, slice_index}
+use Rattle.std.specs.Prelude.{◌+◌, ◌*◌, slice_index}
 use Rattle.block_layout.specs.Indices.{number_of}
 use Rattle.strided_rows.specs.declared.planes.Planes.{Planes}
 use Rattle.cell_boxes.specs.declared.boxes.BoxIn.{BoxIn}

@@ -1,14 +1,13 @@
 //! Writing a box from a box.
 
-ghost use Rattle.std.specs.Prelude.{◌≡◌, ◌≢◌, ◌≤◌, ℕ, List, length, slice_index, All};
-ghost use Rattle.block_layout.specs.Indices.{IsWithin};
-ghost use Rattle.cell_boxes.specs.Boxes.{IsBoxIn, HasCells, address};
+ghost use Rattle.std.specs.Prelude.{◌≡◌, ◌≤◌, length, All};
+ghost use Rattle.cell_boxes.specs.Boxes.{HasBox, HasCells, IsBoxIn, StaysOffBox};
 ghost use Rattle.cell_boxes.specs.Planes.{planes_of};
 
 use strided_rows::{Planes, RowMap, write_planes};
 
-/// Where a box of numbers lies in a list: from `first` on the list has a box of `widths`, x1 fastest, and in that the box begins
-/// at the index `low`.
+/// Where a box of numbers lies in a list: from `first` on the list has a box of `widths`, x1 fastest, and in that the box
+/// begins at the index `low`.
 #[derive(Clone, Copy, Debug)]
 pub struct BoxIn {
     pub first: usize,
@@ -43,8 +42,8 @@ pub fn write_box<R: RowMap>(
     requires from { IsBoxIn extents from_box (length from.now) }
     requires into { IsBoxIn extents into_box (length into.old) }
     requires small { All (λ n. n ≤ R.greatest op.now) from.now }
-    ensures inside { (i : List ℕ) → IsWithin extents i → slice_index into.new (address into_box i) ≡ R.gives op.now (slice_index from.now (address from_box i)) }
-    ensures outside { (n : ℕ) → ((i : List ℕ) → IsWithin extents i → n ≢ address into_box i) → slice_index into.new n ≡ slice_index into.old n }
+    ensures inside { HasBox (R.gives op.now) extents from.now from_box into.new into_box }
+    ensures outside { StaysOffBox extents into_box into.old into.new }
 {
     let from_planes = planes_in(extents, from_box, from.len());
     let into_planes = planes_in(extents, into_box, into.len());

@@ -3,7 +3,7 @@ use Rattle.std.proofs.Common.{◌≡◌, ◌≢◌, ◌==◌, ◌||◌, ℕ, zer
 use Rattle.std.proofs.lemmas.Bool.Decides.{nat_tests}
 use Rattle.block_layout.specs.declared.layout.Layout.{Layout}
 use Rattle.block_layout.specs.Sizes.{IsLayout}
-use Rattle.block_layout.specs.Indices.{IsWithin, added, number_of, with_along}
+use Rattle.block_layout.specs.Indices.{IsWithin, added, with_along}
 use Rattle.block_layout.specs.Layouts.{cells_along}
 use Rattle.block_layout.specs.Faces.{face_extents, face_number, first_face}
 use Rattle.block_layout.proofs.FaceNumbers.{one_axis, one_index}

@@ -1,11 +1,12 @@
 -- What passes the faces of a block.
-use Rattle.std.specs.Prelude.{◌≡◌, ◌==◌, ℕ, ◌+◌, ◌*◌, ◌<◌, Bool, true, false, cond, ◌&&◌, ◌||◌, List, slice_index}
+use Rattle.std.specs.Prelude.{◌≡◌, ◌≢◌, ◌==◌, ℕ, ◌+◌, ◌*◌, ◌<◌, Bool, true, false, cond, ◌&&◌, ◌||◌, List, slice_index}
 use Rattle.std.specs.List.{slice_index_or}
 use Rattle.mesh_num.specs.Portion.{portion}
 use Rattle.block_layout.specs.declared.layout.Layout.{Layout}
 use Rattle.block_layout.specs.Indices.{IsWithin}
 use Rattle.block_layout.specs.Layouts.{cells_along, place}
 use Rattle.block_layout.specs.Faces.{face_extents, face_number}
+use Rattle.upwind_portions.specs.declared.fraction.Fraction.{Fraction}
 use Rattle.upwind_fluxes.specs.declared.donor.Donor.{Donor}
 use Rattle.upwind_fluxes.specs.declared.rates.LevelRates.{LevelRates}
 use Rattle.upwind_fluxes.specs.Beside.{beside_face}
@@ -35,6 +36,23 @@ donor_total l donor cells axis i = slice_index cells (place l (beside_face l axi
 -- what it pays: the upwind portion, floored, and nothing through a closed face
 abbrev pub flux_at : Layout → Donor → ℕ → ℕ → List Bool → List ℕ → ℕ → List ℕ → ℕ
 flux_at l donor rate denominator closed cells axis i = cond (is_closed l closed axis i) 0 (portion (donor_total l donor cells axis i) rate denominator)
+
+-- a list has a number for each face of an axis
+abbrev pub AreAlong : Layout → ℕ → (List ℕ → ℕ) → List ℕ → Type 0
+AreAlong l axis each list = (i : List ℕ) → IsWithin (face_extents l axis) i → slice_index list (face_number l axis i) ≡ each i
+
+-- the cells at one side of the faces of an axis pay by that rate
+abbrev pub PaysAlong : Layout → ℕ → Donor → ℕ → ℕ → List ℕ → List ℕ → Type 0
+PaysAlong l axis donor rate denominator cells list = AreAlong l axis (λ i. portion (donor_total l donor cells axis i) rate denominator) list
+
+-- they pay by the rate of a fraction, and nothing through closed faces
+abbrev pub FluxAlong : Layout → ℕ → Donor → Fraction → List Bool → List ℕ → List ℕ → Type 0
+FluxAlong l axis donor f closed cells list = AreAlong l axis (flux_at l donor f.rate f.denominator closed cells axis) list
+
+-- the faces of all other axes have what they had
+abbrev pub OthersStay : Layout → ℕ → List ℕ → List ℕ → Type 0
+OthersStay l axis old new = (other : ℕ) (i : List ℕ) → other < l.dims → other ≢ axis → IsWithin (face_extents l other) i →
+    slice_index new (face_number l other i) ≡ slice_index old (face_number l other i)
 
 -- a list has what passes each face of a block in one direction
 abbrev pub AreFluxes : Layout → Donor → LevelRates → List Bool → List ℕ → List ℕ → Type 0

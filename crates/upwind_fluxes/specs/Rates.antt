@@ -1,8 +1,7 @@
 -- Rates along the axes.
-use Rattle.std.specs.Prelude.{◌≡◌, ℕ, zero, suc, ◌<◌, ◌≤◌, ◌^◌}
+use Rattle.std.specs.Prelude.{ℕ, ◌<◌, ◌≤◌, ◌^◌}
 use Rattle.std.specs.List.{slice_index_or}
 use Rattle.problem_set.specs.declared.rates.Rates.{Rates}
-use Rattle.upwind_portions.specs.declared.fraction.Fraction.{Fraction}
 use Rattle.upwind_fluxes.specs.declared.donor.Donor.{Donor}
 use Rattle.upwind_fluxes.specs.declared.donor.Donor.TheVariants.{Below, Above}
 use Rattle.upwind_fluxes.specs.declared.rates.LevelRates.{LevelRates}

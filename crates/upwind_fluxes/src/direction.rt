@@ -1,11 +1,9 @@
 //! What passes in one direction, by the fastest tier.
 
-ghost use Rattle.std.specs.Prelude.{◌≡◌, ◌≢◌, ◌≤◌, ◌<◌, ◌^◌, ℕ, List, length, slice_index, All};
-ghost use Rattle.mesh_num.specs.Portion.{portion};
-ghost use Rattle.block_layout.specs.Indices.{IsWithin};
+ghost use Rattle.std.specs.Prelude.{◌≡◌, ◌≤◌, ◌<◌, ◌^◌, length, All};
 ghost use Rattle.block_layout.specs.Layouts.{len};
-ghost use Rattle.block_layout.specs.Faces.{face_count, face_extents, face_number};
-ghost use Rattle.upwind_fluxes.specs.Fluxes.{donor_total, flux_at};
+ghost use Rattle.block_layout.specs.Faces.{face_count};
+ghost use Rattle.upwind_fluxes.specs.Fluxes.{FluxAlong, OthersStay, PaysAlong};
 
 use crate::donor::Donor;
 use crate::faces::write_portions;
@@ -29,8 +27,8 @@ fn write_direction(
     requires faces { length into.old ≡ face_count layout.now }
     requires bound { All (λ t. t ≤ greatest) cells.now }
     requires small { greatest < 2 ^ 62 }
-    ensures along { (i : List ℕ) → IsWithin (face_extents layout.now axis) i → slice_index into.new (face_number layout.now axis i) ≡ portion (donor_total layout.now donor cells.now axis i) fraction.now.rate fraction.now.denominator }
-    ensures others { (other : ℕ) (i : List ℕ) → other < layout.now.dims → other ≢ axis → IsWithin (face_extents layout.now other) i → slice_index into.new (face_number layout.now other i) ≡ slice_index into.old (face_number layout.now other i) }
+    ensures along { PaysAlong layout.now axis donor fraction.now.rate fraction.now.denominator cells.now into.new }
+    ensures others { OthersStay layout.now axis into.old into.new }
 {
     match fraction.tier(greatest) {
         Tier::Nothing(portions) => write_portions(layout, axis, donor, portions, cells, into),
@@ -56,8 +54,8 @@ pub(crate) fn fluxes_along(
     requires faces { length into.old ≡ face_count layout.now }
     requires bound { All (λ t. t ≤ greatest) cells.now }
     requires small { greatest < 2 ^ 62 }
-    ensures along { (i : List ℕ) → IsWithin (face_extents layout.now axis) i → slice_index into.new (face_number layout.now axis i) ≡ flux_at layout.now donor fraction.now.rate fraction.now.denominator closed.now cells.now axis i }
-    ensures others { (other : ℕ) (i : List ℕ) → other < layout.now.dims → other ≢ axis → IsWithin (face_extents layout.now other) i → slice_index into.new (face_number layout.now other i) ≡ slice_index into.old (face_number layout.now other i) }
+    ensures along { FluxAlong layout.now axis donor fraction.now closed.now cells.now into.new }
+    ensures others { OthersStay layout.now axis into.old into.new }
 {
     write_direction(layout, axis, donor, fraction, greatest, cells, into);
     let low = Side { axis, high: false };

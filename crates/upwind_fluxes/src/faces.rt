@@ -1,11 +1,10 @@
 //! What passes the faces of one axis in one direction.
 
-ghost use Rattle.std.specs.Prelude.{◌≡◌, ◌≢◌, ◌≤◌, ◌<◌, ℕ, List, length, slice_index, All};
-ghost use Rattle.mesh_num.specs.Portion.{portion};
-ghost use Rattle.block_layout.specs.Indices.{IsWithin};
-ghost use Rattle.block_layout.specs.Layouts.{len, place};
-ghost use Rattle.block_layout.specs.Faces.{face_count, face_extents, face_number};
-ghost use Rattle.upwind_fluxes.specs.Beside.{beside_face, cells_beside, faces_box};
+ghost use Rattle.std.specs.Prelude.{◌≡◌, ◌≤◌, ◌<◌, length, All};
+ghost use Rattle.block_layout.specs.Layouts.{len};
+ghost use Rattle.block_layout.specs.Faces.{face_count, face_extents};
+ghost use Rattle.upwind_fluxes.specs.Beside.{cells_beside};
+ghost use Rattle.upwind_fluxes.specs.Fluxes.{OthersStay, PaysAlong};
 
 use crate::donor::Donor;
 use crate::portion_row::PortionRow;
@@ -60,8 +59,8 @@ pub(crate) fn write_portions<P: Portions>(
     requires cells { length cells.now ≡ len layout.now }
     requires faces { length into.old ≡ face_count layout.now }
     requires small { All (λ t. t ≤ P.greatest portions) cells.now }
-    ensures along { (i : List ℕ) → IsWithin (face_extents layout.now axis) i → slice_index into.new (face_number layout.now axis i) ≡ portion (slice_index cells.now (place layout.now (beside_face layout.now axis donor i))) (P.rate portions) (P.denominator portions) }
-    ensures others { (other : ℕ) (i : List ℕ) → other < layout.now.dims → other ≢ axis → IsWithin (face_extents layout.now other) i → slice_index into.new (face_number layout.now other i) ≡ slice_index into.old (face_number layout.now other i) }
+    ensures along { PaysAlong layout.now axis donor (P.rate portions) (P.denominator portions) cells.now into.new }
+    ensures others { OthersStay layout.now axis into.old into.new }
 {
     let extents = extents_of(layout, axis);
     let faces = BoxIn {

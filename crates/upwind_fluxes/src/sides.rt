@@ -1,11 +1,10 @@
 //! Closed sides.
 
-ghost use Rattle.std.specs.Prelude.{◌≡◌, ◌≢◌, ◌<◌, ◌&&◌, ℕ, List, length, slice_index, true, false, cond};
-ghost use Rattle.block_layout.specs.Indices.{IsWithin};
+ghost use Rattle.std.specs.Prelude.{◌≡◌, ◌<◌, length};
 ghost use Rattle.block_layout.specs.Layouts.{len};
-ghost use Rattle.block_layout.specs.Faces.{face_count, face_extents, face_number};
-ghost use Rattle.upwind_fluxes.specs.Fluxes.{is_at_side};
-ghost use Rattle.upwind_fluxes.specs.Sides.{side_box, side_extents};
+ghost use Rattle.block_layout.specs.Faces.{face_count};
+ghost use Rattle.upwind_fluxes.specs.Fluxes.{OthersStay};
+ghost use Rattle.upwind_fluxes.specs.Sides.{ClosesIf, IsClosedAt, StaysOff, side_box, side_extents};
 
 use crate::faces::extents_of;
 use block_layout::Layout;
@@ -47,9 +46,9 @@ fn close_side(layout: &Layout, side: Side, cells: &[u64], into: &mut [u64])
     requires axis { side.axis < layout.now.dims }
     requires cells { length cells.now ≡ len layout.now }
     requires faces { length into.old ≡ face_count layout.now }
-    ensures closed { (i : List ℕ) → IsWithin (face_extents layout.now side.axis) i → is_at_side layout.now side.axis side.high i ≡ true → slice_index into.new (face_number layout.now side.axis i) ≡ 0 }
-    ensures open_faces { (i : List ℕ) → IsWithin (face_extents layout.now side.axis) i → is_at_side layout.now side.axis side.high i ≡ false → slice_index into.new (face_number layout.now side.axis i) ≡ slice_index into.old (face_number layout.now side.axis i) }
-    ensures others { (other : ℕ) (i : List ℕ) → other < layout.now.dims → other ≢ side.axis → IsWithin (face_extents layout.now other) i → slice_index into.new (face_number layout.now other i) ≡ slice_index into.old (face_number layout.now other i) }
+    ensures closed { IsClosedAt layout.now side.axis side.high into.new }
+    ensures open_faces { StaysOff layout.now side.axis side.high into.old into.new }
+    ensures others { OthersStay layout.now side.axis into.old into.new }
 {
     let whole = BoxIn {
         first: 0,
@@ -71,8 +70,8 @@ pub(crate) fn close_if(layout: &Layout, side: Side, closed: bool, cells: &[u64],
     requires axis { side.axis < layout.now.dims }
     requires cells { length cells.now ≡ len layout.now }
     requires faces { length into.old ≡ face_count layout.now }
-    ensures along { (i : List ℕ) → IsWithin (face_extents layout.now side.axis) i → slice_index into.new (face_number layout.now side.axis i) ≡ cond (closed && is_at_side layout.now side.axis side.high i) 0 (slice_index into.old (face_number layout.now side.axis i)) }
-    ensures others { (other : ℕ) (i : List ℕ) → other < layout.now.dims → other ≢ side.axis → IsWithin (face_extents layout.now other) i → slice_index into.new (face_number layout.now other i) ≡ slice_index into.old (face_number layout.now other i) }
+    ensures along { ClosesIf closed layout.now side.axis side.high into.old into.new }
+    ensures others { OthersStay layout.now side.axis into.old into.new }
 {
     if closed {
         close_side(layout, side, cells, into);

@@ -1,4 +1,4 @@
-use Rattle.std.proofs.Common.{◌<◌, arith}
+use Rattle.std.proofs.Common.{arith}
 use Rattle.upwind_fluxes.specs.declared.donor.Donor.TheVariants.{Below, Above}
 use Rattle.upwind_fluxes.proofs.AllFaces.{one_more_axis}
 use Rattle.upwind_fluxes.proofs.all_faces.fluxes_by.Goals as goal

@@ -1,4 +1,4 @@
-use Rattle.std.proofs.Common.{◌≡◌, ℕ, ◌∙◌, ap, cond, ◌&&◌, true, false}
+use Rattle.std.proofs.Common.{ℕ, ◌∙◌, ap, cond, ◌&&◌, true, false}
 use Rattle.mesh_num.specs.Portion.{portion}
 use Rattle.upwind_fluxes.specs.Fluxes.{donor_total, is_at_side, is_closed_side}
 use Rattle.upwind_fluxes.proofs.SideFaces.{closed_at_either}

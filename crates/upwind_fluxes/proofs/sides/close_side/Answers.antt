@@ -1,4 +1,4 @@
-use Rattle.std.proofs.Common.{ℕ, List, arith, ap, subst, ◌∙◌, ◌≡◌}
+use Rattle.std.proofs.Common.{ℕ, List, arith, ap, subst, ◌∙◌}
 use Rattle.block_layout.specs.Indices.{IsWithin}
 use Rattle.cell_boxes.specs.declared.boxes.BoxIn.{BoxIn}
 use Rattle.cell_boxes.specs.Boxes.{address}
