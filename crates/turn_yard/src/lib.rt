@@ -17,6 +17,8 @@ mod entries;
 mod memory;
 mod seat;
 mod steps;
+#[cfg(test)]
+mod tests;
 mod turns;
 mod view;
 mod yard;
