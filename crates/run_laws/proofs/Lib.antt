@@ -14,3 +14,9 @@ pub mod Fits
 pub mod NextLeaves
 pub mod RemeshMasks
 pub mod RunFits
+pub mod ZeroSteps
+pub mod ZeroRegions
+pub mod ZeroSeen
+pub mod ZeroCuts
+pub mod ZeroFluxes
+pub mod ZeroThresholds

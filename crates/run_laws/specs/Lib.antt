@@ -3,3 +3,4 @@ pub mod TreeLaws
 pub mod BoundLaws
 pub mod MaskLaws
 pub mod FitLaws
+pub mod ZeroThresholds
