@@ -20,3 +20,4 @@ pub mod ZeroSeen
 pub mod ZeroCuts
 pub mod ZeroFluxes
 pub mod ZeroThresholds
+pub mod ZeroRuns

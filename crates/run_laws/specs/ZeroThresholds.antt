@@ -1,12 +1,18 @@
--- What a cycle is at zero thresholds: the cycle that knows of no mask.
-use Rattle.std.specs.Prelude.{◌≡◌, ℕ, ◌<◌, List}
-use Rattle.package_fields.specs.Kernel.{Reacted}
+-- What cycles and runs are at zero thresholds: those that know of no mask.
+use Rattle.std.specs.Prelude.{◌≡◌, ℕ, zero, suc, ◌<◌, ◌≤◌, cond, List, length, replicate}
+use Rattle.block_tree.specs.Leaves.{leaves_of}
+use Rattle.package_fields.specs.Kernel.{KernelLaws, Reacted}
 use Rattle.problem_set.specs.Settings.{Settings}
 use Rattle.problem_set.specs.declared.problem.Problem.{Problem}
 use Rattle.problem_set.specs.SettingsOf.{settings_of}
+use Rattle.mesh_rules.specs.Mesh.{Mesh}
 use Rattle.mesh_rules.specs.Fields.{field_count}
+use Rattle.mesh_rules.specs.Tags.{counters_after, tags_after}
+use Rattle.mesh_rules.specs.Remesh.{carried_counters, next_tree, remap}
 use Rattle.mesh_rules.specs.Cycle.{State, checked, drop_of, reacted_to, staged_to}
 use Rattle.mesh_rules.specs.Unmasked.{dense_kept, dense_kept_checked, dense_kept_reacted, dense_reacted, dense_staged}
+use Rattle.mesh_rules.specs.Opening.{opening_mesh}
+use Rattle.mesh_rules.specs.Run.{Reached, last_drop, remeshes_at, run, running}
 use Rattle.mesh_rules.specs.Fit.{IsMaskOf, IsMeshOf}
 
 -- a field is allocated as soon as there is any of it, and freed only where there is none
@@ -29,3 +35,34 @@ pub record IsUnmasked (p : Settings) (react : List ℕ → Reacted) (s : State) 
 abbrev pub ZeroThresholdsAreUnmasked : Type 0
 ZeroThresholdsAreUnmasked = (p : Problem) (react : List ℕ → Reacted) (s : State) → HasZeroThresholds (settings_of p) → IsMeshOf (settings_of p) s.mesh → IsMaskOf (settings_of p) s.mesh s.mask →
     IsUnmasked (settings_of p) react s
+
+-- where a run that knows of no mask stands: its mesh, and how often in a row each leaf has wished to derefine
+pub record DenseState : Type 0 where
+  pub mesh : Mesh
+  pub counters : List ℕ
+
+-- after one more cycle, by its number: on the next tree where the tree may change, else on the same one
+abbrev pub dense_cycled : Settings → (List ℕ → Reacted) → ℕ → DenseState → DenseState
+dense_cycled p react cycle s =
+    let m = dense_reacted p react s.mesh in
+    let counters = counters_after p m s.counters in
+    let next = next_tree p s.mesh (tags_after p m s.counters) in
+    cond (remeshes_at p cycle)
+    (record { mesh = remap m (field_count p) next; counters = carried_counters m counters (leaves_of m.shape next) })
+    (record { mesh = m; counters = counters })
+
+-- after that many cycles from the opening, were there room for every tree
+unfoldable pub dense_run : Settings → (List ℕ → Reacted) → ℕ → DenseState
+dense_run p react zero = record { mesh = opening_mesh p; counters = replicate (length (opening_mesh p).leaves) 0 }
+dense_run p react (suc n) = dense_cycled p react (suc n) (dense_run p react n)
+
+-- a run stands where that one does, and nothing was dropped in its last cycle
+pub record IsDenseRun (p : Settings) (react : List ℕ → Reacted) (cycle : ℕ) (r : Reached) : Type 0 where
+  pub mesh : r.state.mesh ≡ (dense_run p react cycle).mesh
+  pub counters : r.state.counters ≡ (dense_run p react cycle).counters
+  pub drops : (f : ℕ) → f < field_count p → last_drop r f ≡ 0
+
+-- at zero thresholds each run of a problem is such after each cycle, remeshing included
+abbrev pub ZeroThresholdRunsAreDense : Type 0
+ZeroThresholdRunsAreDense = (p : Problem) (react : List ℕ → Reacted) (cycle : ℕ) (r : Reached) → HasZeroThresholds (settings_of p) → KernelLaws (field_count (settings_of p)) react → cycle ≤ p.nlim →
+    run (settings_of p) react cycle ≡ running r → IsDenseRun (settings_of p) react cycle r

@@ -5,7 +5,7 @@ ghost use Rattle.run_laws.specs.FitLaws.{RunsAreFit};
 ghost use Rattle.run_laws.specs.HistoryLaws.{CyclesBalance, HistoryBalances};
 ghost use Rattle.run_laws.specs.MaskLaws.{CyclesAreZeroOutside, MasksStayFit, OpeningMaskFits};
 ghost use Rattle.run_laws.specs.TreeLaws.{NextIsLeastTree, OpeningIsLeastTree, RunsStandOnTrees};
-ghost use Rattle.run_laws.specs.ZeroThresholds.{ZeroThresholdsAreUnmasked};
+ghost use Rattle.run_laws.specs.ZeroThresholds.{ZeroThresholdRunsAreDense, ZeroThresholdsAreUnmasked};
 
 /// The opening tree and each next tree are the least ones, and each leaf changes by at most one level; so every mesh of a
 /// run stands on a balanced tree with no more levels than the problem allows.
@@ -46,9 +46,11 @@ pub fn fit_law()
     ensures { RunsAreFit }
 {}
 
-/// At zero thresholds a mask changes nothing: in each cycle from a mesh of a problem and a mask that fits it, by any kernel,
+/// At zero thresholds a mask changes nothing. In each cycle from a mesh of a problem and a mask that fits it, by any kernel,
 /// the meshes after each stage, after the reaction and after the check are those of the cycle in which every field is on
-/// every block, what is kept follows from those meshes alone, and nothing is dropped.
-pub fn zero_threshold_law()
-    ensures { ZeroThresholdsAreUnmasked }
+/// every block, what is kept follows from those meshes alone, and nothing is dropped. So each run stands after each cycle on
+/// the mesh of the run that knows of no mask, remeshing included.
+pub fn zero_threshold_laws()
+    ensures cycles { ZeroThresholdsAreUnmasked }
+    ensures runs { ZeroThresholdRunsAreDense }
 {}

@@ -7,4 +7,4 @@
 
 mod laws;
 
-pub use laws::{bound_laws, fit_law, history_law, mask_laws, tree_laws, zero_threshold_law};
+pub use laws::{bound_laws, fit_law, history_law, mask_laws, tree_laws, zero_threshold_laws};

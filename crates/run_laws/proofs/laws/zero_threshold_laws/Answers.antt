@@ -1,0 +1,9 @@
+use Rattle.run_laws.proofs.ZeroRuns.{runs_dense}
+use Rattle.run_laws.proofs.ZeroThresholds.{zero_thresholds}
+use Rattle.run_laws.proofs.laws.zero_threshold_laws.Goals as goal
+
+pub returns-clause-cycles : goal.returns-clause-cycles
+returns-clause-cycles c = zero_thresholds
+
+pub returns-clause-runs : goal.returns-clause-runs
+returns-clause-runs c = runs_dense
