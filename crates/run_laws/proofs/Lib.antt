@@ -16,6 +16,7 @@ pub mod RemeshMasks
 pub mod RunFits
 pub mod ZeroSteps
 pub mod ZeroRegions
+pub mod ZeroParts
 pub mod ZeroSeen
 pub mod ZeroCuts
 pub mod ZeroFluxes

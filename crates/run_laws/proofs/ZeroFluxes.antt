@@ -60,9 +60,9 @@ own_still q m f c axis high none =
     let order : ℕ = (moves_at q f).order in
     record {
       right = ap (λ (b : Bool). portion (reconstructed order x.far_below x.below x.above) (cond b (rate (upwards (velocity (moves_at q f) axis)) (moves_at q f).k c.level) 0) q.denominator) none
-        ∙ no_portion (reconstructed order x.far_below x.below x.above) q.denominator;
+          ∙ no_portion (reconstructed order x.far_below x.below x.above) q.denominator;
       left = ap (λ (b : Bool). portion (reconstructed order x.far_above x.above x.below) (cond b (rate (downwards (velocity (moves_at q f) axis)) (moves_at q f).k c.level) 0) q.denominator) none
-        ∙ no_portion (reconstructed order x.far_above x.above x.below) q.denominator;
+          ∙ no_portion (reconstructed order x.far_above x.above x.below) q.denominator;
     }
 
 outside_still : (kind : FaceKind) (own : Pair) → IsStill own → IsStill (pair_outside kind own)

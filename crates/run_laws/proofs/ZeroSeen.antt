@@ -26,7 +26,8 @@ use Rattle.mesh_laws.proofs.Looks.{look_law, some_parts}
 use Rattle.mesh_laws.proofs.Pays.{term_least}
 use Rattle.mesh_laws.proofs.Portions.{all_shares}
 use Rattle.run_laws.proofs.ZeroSteps.{Crossed, IsNearEnd, crossed, leads_out}
-use Rattle.run_laws.proofs.ZeroRegions.{IsSite, block_axis, block_moved, from_coarser, from_finer, from_same, inside_along, lattice_along, moved_at, moved_else, moved_level, moved_self, parent_along, two_parts}
+use Rattle.run_laws.proofs.ZeroParts.{from_coarser, from_finer, two_parts}
+use Rattle.run_laws.proofs.ZeroRegions.{IsSite, block_axis, block_moved, from_same, inside_along, lattice_along, moved_at, moved_else, moved_level, moved_self, parent_along}
 
 -- what is not above zero is zero
 not_above : (t x : ℕ) → t ≡ 0 → (nat_lt t x ≡ true → ⊥) → x ≡ 0
@@ -119,7 +120,7 @@ met_by q m f c axis high y x small true b inner node =
     let near : IsNearEnd high (cells_along m axis) (axis_of o axis) = subst (λ (v : ℕ). IsNearEnd high (cells_along m axis) v) (sym (moved_at c axis y small)) x.crosses.near in
     not_above q.alloc_threshold (look m f o) x.threshold
     (λ above. false≢true (sym x.nothing ∙ sends q m f l axis high (fine (map (child m.shape.dims (block_of m o)) (children_at m.shape.dims axis (not high)))) is tt
-      (from_finer m f q.alloc_threshold c o axis high x.site (moved_level c axis y) near above)))
+    (from_finer m f q.alloc_threshold c o axis high x.site (moved_level c axis y) near above)))
 met_by q m f c axis high y x small false true inner node =
     let o : Loc = moved c axis y in
     let l : Loc = block_of m c in
@@ -130,7 +131,7 @@ met_by q m f c axis high y x small false true inner node =
     let near : IsNearEnd high (cells_along m axis) (axis_of o axis) = subst (λ (v : ℕ). IsNearEnd high (cells_along m axis) v) (sym (moved_at c axis y small)) x.crosses.near in
     not_above q.alloc_threshold (look m f o) x.threshold
     (λ above. false≢true (sym x.nothing ∙ sends q m f l axis high (same (block_of m o)) is tt
-      (one_passes (some_above q.alloc_threshold (region m f (block_of m o) l axis high)) (from_same m f q.alloc_threshold c o axis high x.site.mesh (moved_level c axis y) near above))))
+    (one_passes (some_above q.alloc_threshold (region m f (block_of m o) l axis high)) (from_same m f q.alloc_threshold c o axis high x.site.mesh (moved_level c axis y) near above))))
 met_by q m f c axis high y x small false false inner node =
     let o : Loc = moved c axis y in
     let l : Loc = block_of m c in
@@ -152,18 +153,18 @@ met_by q m f c axis high y x small false false inner node =
     let below : axis_of c axis / n < half_rows * 2 = subst (λ (v : ℕ). v < half_rows * 2) at (subst (λ (v : ℕ). axis_of l axis < v) rows (inside_along m.shape l axis small (block_inside m mesh c site.inside))) in
     let meets : step (half_rows * 2) (wraps m.shape axis) high (axis_of c axis / n) ≡ Some (y / n) = subst (λ (v : ℕ). step v (wraps m.shape axis) high (axis_of c axis / n) ≡ Some (y / n)) rows x.crosses.meets in
     let pairs : IsNearEnd high 2 (y / n) = ⊎_elim
-      (λ (twins : y / n / 2 ≡ axis_of c axis / n / 2).
-        let one : parent m.shape.dims (block_of m o) ≡ parent m.shape.dims l =
-        ap (parent m.shape.dims) (block_moved m c axis y small) ∙ same_parent m.shape.dims l axis (y / n) small used (twins ∙ ap (λ v. v / 2) (sym at)) in
-        absurd (apart.1 (ap (is_inner m) one ∙ node_parent m.shape (is_inner m) l deep site.leaf.node)))
-      (λ (far : Crossed half_rows 2 (wraps m.shape axis) high (axis_of c axis / n) (y / n)). far.near)
-      (crossed half_rows 2 (axis_of c axis / n) (y / n) (wraps m.shape axis) high (omega arith) below meets) in
+    (λ (twins : y / n / 2 ≡ axis_of c axis / n / 2).
+    let one : parent m.shape.dims (block_of m o) ≡ parent m.shape.dims l =
+    ap (parent m.shape.dims) (block_moved m c axis y small) ∙ same_parent m.shape.dims l axis (y / n) small used (twins ∙ ap (λ v. v / 2) (sym at)) in
+    absurd (apart.1 (ap (is_inner m) one ∙ node_parent m.shape (is_inner m) l deep site.leaf.node)))
+    (λ (far : Crossed half_rows 2 (wraps m.shape axis) high (axis_of c axis / n) (y / n)). far.near)
+    (crossed half_rows 2 (axis_of c axis / n) (y / n) (wraps m.shape axis) high (omega arith) below meets) in
     let half : IsNearEnd high 2 (axis_of o axis / n) = subst (λ (v : ℕ). IsNearEnd high 2 (v / n)) (sym (moved_at c axis y small)) pairs in
     let parent_none : look m f (parent m.shape.dims o) ≡ 0 =
     not_above q.alloc_threshold (look m f (parent m.shape.dims o)) x.threshold
     (λ above. false≢true (sym x.nothing ∙ sends q m f l axis high (coarse (parent m.shape.dims (block_of m o))) is tt
-      (one_passes (some_above q.alloc_threshold (region m f (parent m.shape.dims (block_of m o)) l axis high))
-        (from_coarser m f q.alloc_threshold c o axis high site level (omega (arith, deep, level)) near half (λ k h d. moved_else c axis y k small h d) above)))) in
+    (one_passes (some_above q.alloc_threshold (region m f (parent m.shape.dims (block_of m o)) l axis high))
+    (from_coarser m f q.alloc_threshold c o axis high site level (omega (arith, deep, level)) near half (λ k h d. moved_else c axis y k small h d) above)))) in
     (look_law m f o mesh).coarser node
     ∙ share_nothing (look m f (parent m.shape.dims o)) (parts m.shape.dims) (child_number m.shape.dims o) (some_parts m.shape.dims) (child_number_below m.shape.dims o mesh.shape.least mesh.shape.most) parent_none
 
@@ -208,5 +209,5 @@ seen_nothing q m f c axis high site threshold empty nothing = by (step (blocks_a
     by (Some y) e = ⊎_elim
         (λ (stays : y / cells_along m axis ≡ axis_of c axis / cells_along m axis). own y stays)
         (λ (goes : Crossed (blocks_along m.shape axis c.level) (cells_along m axis) (wraps m.shape axis) high (axis_of c axis) y).
-          met_by q m f c axis high y (record { site = site; threshold = threshold; crosses = goes; nothing = nothing }) small (is_inner m (block_of m (moved c axis y))) (is_node m.shape (is_inner m) (block_of m (moved c axis y))) refl refl)
+        met_by q m f c axis high y (record { site = site; threshold = threshold; crosses = goes; nothing = nothing }) small (is_inner m (block_of m (moved c axis y))) (is_node m.shape (is_inner m) (block_of m (moved c axis y))) refl refl)
         (crossed (blocks_along m.shape axis c.level) (cells_along m axis) (axis_of c axis) y (wraps m.shape axis) high some within (stepped (Some y) e))

@@ -207,11 +207,11 @@ zero_thresholds p react s thresholds of fit =
       checked_mesh = end ∙ same ∙ dense;
       checked_mask = ap (λ (x : Mesh). kept_by_check q x r.mask) (same ∙ dense) ∙ ap (kept_by_check q (dense_reacted q react s.mesh)) reacted_mask;
       drops = λ f within. over_nothing s.mesh.leaves (leaf_drop q react s f) (λ l i at.
-        let in_stages : sum_to p.nstages (λ n. leaf_drop_in_stage q (staged_to q s n) f l) ≡ 0 = sum_zero p.nstages (λ n. leaf_drop_in_stage q (staged_to q s n) f l) (λ n below.
+          let in_stages : sum_to p.nstages (λ n. leaf_drop_in_stage q (staged_to q s n) f l) ≡ 0 = sum_zero p.nstages (λ n. leaf_drop_in_stage q (staged_to q s n) f l) (λ n below.
           let k = staged_to q s n in
           let here = on_staged q s of n in
           none_dropped q (stage q k.mesh) (kept_by_exchange q k.mesh k.mask) f l i (stage_out p s k alloc of here (stages_same p s alloc of fit n).nothing) within (subst (λ (xs : List Loc). ListedAt xs l i) (sym here.leaves) at)) in
-        let by_kernel : leaf_drop_by_reaction q react h f l ≡ 0 = none_dropped q m mask f l i by_reaction within (subst (λ (xs : List Loc). ListedAt xs l i) (sym on.leaves) at) in
-        let at_check : leaf_drop_at_check q r f l ≡ 0 = none_dropped q r.mesh (kept_by_check q r.mesh r.mask) f l i by_check within (subst (λ (xs : List Loc). ListedAt xs l i) (sym (on_reacted q react s of).leaves) at) in
-        omega arith);
+          let by_kernel : leaf_drop_by_reaction q react h f l ≡ 0 = none_dropped q m mask f l i by_reaction within (subst (λ (xs : List Loc). ListedAt xs l i) (sym on.leaves) at) in
+          let at_check : leaf_drop_at_check q r f l ≡ 0 = none_dropped q r.mesh (kept_by_check q r.mesh r.mask) f l i by_check within (subst (λ (xs : List Loc). ListedAt xs l i) (sym (on_reacted q react s of).leaves) at) in
+          omega arith);
     }

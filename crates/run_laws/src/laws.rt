@@ -46,10 +46,10 @@ pub fn fit_law()
     ensures { RunsAreFit }
 {}
 
-/// At zero thresholds a mask changes nothing. In each cycle from a mesh of a problem and a mask that fits it, by any kernel,
-/// the meshes after each stage, after the reaction and after the check are those of the cycle in which every field is on
-/// every block, what is kept follows from those meshes alone, and nothing is dropped. So each run stands after each cycle on
-/// the mesh of the run that knows of no mask, remeshing included.
+/// At zero thresholds a mask changes nothing. In each cycle from a mesh of a problem and a mask that fits it, by any
+/// kernel, the meshes after each stage, after the reaction and after the check are those of the cycle in which every
+/// field is on every block, what is kept follows from those meshes, and nothing is dropped. So each run stands after
+/// each cycle on the mesh of the run that knows of no mask, remeshing included.
 pub fn zero_threshold_laws()
     ensures cycles { ZeroThresholdsAreUnmasked }
     ensures runs { ZeroThresholdRunsAreDense }
