@@ -1,5 +1,5 @@
 -- At zero thresholds a run is that which knows of no mask.
-use Rattle.std.proofs.Common.{◌≡◌, ℕ, zero, suc, ◌+◌, ◌<◌, Bool, true, false, cond, nat_le, List, length, refl, arith, ap, subst, sym, ◌∙◌}
+use Rattle.std.proofs.Common.{◌≡◌, ℕ, zero, suc, ◌+◌, ◌<◌, Bool, true, false, cond, ◌||◌, not, nat_le, List, length, refl, arith, ap, subst, sym, ◌∙◌}
 use Rattle.std.specs.List.{slice_index_or}
 use Rattle.std.proofs.lemmas.List.{get_or-replicate}
 use Rattle.block_tree.specs.Leaves.{leaves_of}
@@ -14,7 +14,7 @@ use Rattle.mesh_rules.specs.Remesh.{carried_counters, next_tree, remap}
 use Rattle.mesh_rules.specs.Cycle.{State, checked, drop_of, reacted_to, settled, tags_of}
 use Rattle.mesh_rules.specs.Unmasked.{dense_reacted}
 use Rattle.mesh_rules.specs.Run.{Outcome, Reached, cycled, leaf_limit, next_outcome, opened, reached, remeshed, remeshes_at, run, run_from, running, too_many_at, too_many_at_start}
-use Rattle.run_laws.specs.ZeroThresholds.{DenseState, IsDenseRun, ZeroThresholdRunsAreDense, dense_run}
+use Rattle.run_laws.specs.ZeroThresholds.{DenseState, IsDenseRun, ZeroThresholdRunsAreDense, ZeroThresholdRunsStopAlike, dense_leaves, dense_run}
 use Rattle.run_laws.proofs.RunFits.{runs_fit}
 use Rattle.run_laws.proofs.RunTrees.{starts_from, table_at}
 use Rattle.run_laws.proofs.ZeroThresholds.{zero_thresholds}
@@ -94,3 +94,35 @@ runs_dense p react (suc c) r thresholds laws most e =
       counters = end.counters ∙ ap (λ (x : DenseState). x.counters) led;
       drops = λ f within. ap (λ (xs : List ℕ). slice_index_or xs f 0) end.drops ∙ table_at (field_count q) (drop_of q react s) f 0 within ∙ same.drops f within;
     }
+
+-- a run stops where the tree of the run without masks has too many leaves
+stops_by : (a b : Bool) (x y : Reached) (stop : Outcome) → cond a (cond b (running x) stop) (running y) ≡ cond (not a || b) (running (cond a x y)) stop
+stops_by true true x y stop = refl
+stops_by true false x y stop = refl
+stops_by false b x y stop = refl
+
+pub runs_stop : ZeroThresholdRunsStopAlike
+unfolding run run_from
+runs_stop p react c r thresholds laws below e =
+    let q = settings_of p in
+    let s = r.state in
+    let at = runs_dense p react c r thresholds laws (omega arith) e in
+    let fit = runs_fit p react c r laws below e in
+    let same = zero_thresholds p react s thresholds fit.mesh fit.mask in
+    let d = dense_run q react c in
+    let number : 0 + suc c ≡ suc c = omega arith in
+    let a : Bool = remeshes_at q (suc c) in
+    let next = next_tree q s.mesh (tags_of q react s) in
+    let count : ℕ = length (leaves_of s.mesh.shape next) in
+    let stay : Reached = reached q react s (settled q react s) in
+    let move : Reached = reached q react s (remeshed q (settled q react s) next) in
+    let counted : count ≡ dense_leaves q react d =
+    ap (λ (x : Mesh). length (leaves_of s.mesh.shape (next_tree q s.mesh (tags_after q x s.counters)))) same.reacted_mesh
+    ∙ ap (λ (x : Mesh). length (leaves_of x.shape (next_tree q x (tags_after q (dense_reacted q react x) s.counters)))) at.mesh
+    ∙ ap (λ (x : List ℕ). length (leaves_of d.mesh.shape (next_tree q d.mesh (tags_after q (dense_reacted q react d.mesh) x)))) at.counters in (
+      cond a move stay,
+      ap (next_outcome q react (0 + suc c)) e
+          ∙ ap (λ (k : ℕ). cycled q react k s) number
+          ∙ stops_by a (nat_le count leaf_limit) move stay (too_many_at (suc c) count)
+          ∙ ap (λ (n : ℕ). cond (not a || nat_le n leaf_limit) (running (cond a move stay)) (too_many_at (suc c) n)) counted,
+    )

@@ -1,5 +1,5 @@
 -- What cycles and runs are at zero thresholds: those that know of no mask.
-use Rattle.std.specs.Prelude.{◌≡◌, ℕ, zero, suc, ◌<◌, ◌≤◌, cond, List, length, replicate}
+use Rattle.std.specs.Prelude.{◌≡◌, ℕ, zero, suc, ◌<◌, ◌≤◌, Bool, cond, ◌||◌, not, nat_le, List, length, replicate}
 use Rattle.block_tree.specs.Leaves.{leaves_of}
 use Rattle.package_fields.specs.Kernel.{KernelLaws, Reacted}
 use Rattle.problem_set.specs.Settings.{Settings}
@@ -12,7 +12,7 @@ use Rattle.mesh_rules.specs.Remesh.{carried_counters, next_tree, remap}
 use Rattle.mesh_rules.specs.Cycle.{State, checked, drop_of, reacted_to, staged_to}
 use Rattle.mesh_rules.specs.Unmasked.{dense_kept, dense_kept_checked, dense_kept_reacted, dense_reacted, dense_staged}
 use Rattle.mesh_rules.specs.Opening.{opening_mesh}
-use Rattle.mesh_rules.specs.Run.{Reached, last_drop, remeshes_at, run, running}
+use Rattle.mesh_rules.specs.Run.{Reached, last_drop, leaf_limit, remeshes_at, run, running, too_many_at}
 use Rattle.mesh_rules.specs.Fit.{IsMaskOf, IsMeshOf}
 
 -- a field is allocated as soon as there is any of it, and freed only where there is none
@@ -66,3 +66,17 @@ pub record IsDenseRun (p : Settings) (react : List ℕ → Reacted) (cycle : ℕ
 abbrev pub ZeroThresholdRunsAreDense : Type 0
 ZeroThresholdRunsAreDense = (p : Problem) (react : List ℕ → Reacted) (cycle : ℕ) (r : Reached) → HasZeroThresholds (settings_of p) → KernelLaws (field_count (settings_of p)) react → cycle ≤ p.nlim →
     run (settings_of p) react cycle ≡ running r → IsDenseRun (settings_of p) react cycle r
+
+-- how many leaves the tree has that the tags of a cycle from such a state ask for, and whether the run goes on after that cycle
+abbrev pub dense_leaves : Settings → (List ℕ → Reacted) → DenseState → ℕ
+dense_leaves p react s = length (leaves_of s.mesh.shape (next_tree p s.mesh (tags_after p (dense_reacted p react s.mesh) s.counters)))
+
+abbrev pub dense_has_room : Settings → (List ℕ → Reacted) → ℕ → DenseState → Bool
+dense_has_room p react cycle s = not (remeshes_at p cycle) || nat_le (dense_leaves p react s) leaf_limit
+
+-- and it stops exactly where that one has too many leaves, with their number
+abbrev pub ZeroThresholdRunsStopAlike : Type 0
+ZeroThresholdRunsStopAlike = (p : Problem) (react : List ℕ → Reacted) (cycle : ℕ) (r : Reached) → HasZeroThresholds (settings_of p) → KernelLaws (field_count (settings_of p)) react → cycle < p.nlim →
+    run (settings_of p) react cycle ≡ running r →
+    (after : Reached) × (run (settings_of p) react (suc cycle) ≡ cond (dense_has_room (settings_of p) react (suc cycle) (dense_run (settings_of p) react cycle))
+    (running after) (too_many_at (suc cycle) (dense_leaves (settings_of p) react (dense_run (settings_of p) react cycle))))

@@ -5,7 +5,7 @@ ghost use Rattle.run_laws.specs.FitLaws.{RunsAreFit};
 ghost use Rattle.run_laws.specs.HistoryLaws.{CyclesBalance, HistoryBalances};
 ghost use Rattle.run_laws.specs.MaskLaws.{CyclesAreZeroOutside, MasksStayFit, OpeningMaskFits};
 ghost use Rattle.run_laws.specs.TreeLaws.{NextIsLeastTree, OpeningIsLeastTree, RunsStandOnTrees};
-ghost use Rattle.run_laws.specs.ZeroThresholds.{ZeroThresholdRunsAreDense, ZeroThresholdsAreUnmasked};
+ghost use Rattle.run_laws.specs.ZeroThresholds.{ZeroThresholdRunsAreDense, ZeroThresholdRunsStopAlike, ZeroThresholdsAreUnmasked};
 
 /// The opening tree and each next tree are the least ones, and each leaf changes by at most one level; so every mesh of a
 /// run stands on a balanced tree with no more levels than the problem allows.
@@ -49,8 +49,9 @@ pub fn fit_law()
 /// At zero thresholds a mask changes nothing. In each cycle from a mesh of a problem and a mask that fits it, by any
 /// kernel, the meshes after each stage, after the reaction and after the check are those of the cycle in which every
 /// field is on every block, what is kept follows from those meshes, and nothing is dropped. So each run stands after
-/// each cycle on the mesh of the run that knows of no mask, remeshing included.
+/// each cycle on the mesh of the run that knows of no mask, remeshing included, and stops where that one does.
 pub fn zero_threshold_laws()
     ensures cycles { ZeroThresholdsAreUnmasked }
     ensures runs { ZeroThresholdRunsAreDense }
+    ensures stops { ZeroThresholdRunsStopAlike }
 {}
