@@ -1,5 +1,5 @@
 -- The cells of a block, and what lies across their sides.
-use Rattle.std.proofs.Common.{◌≡◌, ℕ, zero, suc, ◌+◌, ◌*◌, ◌^◌, ◌<◌, ◌≤◌, Bool, true, false, not, Option, Some, None, List, refl, arith, ap, subst, sym, ◌∙◌, lit<, slice_index}
+use Rattle.std.proofs.Common.{◌≡◌, ℕ, zero, suc, ◌+◌, ◌*◌, ◌^◌, ◌<◌, Bool, true, false, not, Option, Some, None, List, refl, arith, ap, ◌∙◌, slice_index}
 use Rattle.std.specs.Option.{option_map}
 use Rattle.std.proofs.lemmas.Nat.{div-mul-add, mul-add-lt}
 use Rattle.morton_order.specs.declared.space.Loc.{Loc}
@@ -10,7 +10,7 @@ use Rattle.mesh_rules.specs.Mesh.{IsMesh, Mesh, block_of, cell_lattice, cells_al
 use Rattle.mesh_rules.specs.Faces.{cell_across}
 use Rattle.block_layout.specs.Indices.{IsWithin, with_along}
 use Rattle.block_geometry.specs.Blocks.{cell_in, end_of}
-use Rattle.block_geometry.specs.Laws.{CellsOfBlocks, CrossesInRow, LiesInBlock}
+use Rattle.block_geometry.specs.Laws.{CellsOfBlocks}
 use Rattle.block_geometry.proofs.Steps.{down_inside, step_beyond, up_inside}
 
 -- an index along an axis

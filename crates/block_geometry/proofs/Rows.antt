@@ -1,9 +1,9 @@
 -- Places in the row of a cell.
-use Rattle.std.proofs.Common.{◌≡◌, ℕ, zero, suc, ◌+◌, ◌-◌, ◌*◌, ◌<◌, ◌≤◌, Bool, true, false, cond, List, refl, arith, ap, slice_index, ◌∙◌, sym}
+use Rattle.std.proofs.Common.{◌≡◌, ℕ, zero, suc, ◌+◌, ◌*◌, ◌<◌, Bool, cond, List, refl, arith, ap, slice_index, ◌∙◌, sym}
 use Rattle.std.proofs.lemmas.Bool.{lt-ltb}
 use Rattle.block_layout.specs.declared.layout.Layout.{Layout}
-use Rattle.block_layout.specs.Indices.{IsWithin, number_of, with_along}
-use Rattle.block_layout.specs.Layouts.{cells_along, ghost_layers, widths}
+use Rattle.block_layout.specs.Indices.{IsWithin, with_along}
+use Rattle.block_layout.specs.Layouts.{ghost_layers, widths}
 use Rattle.block_geometry.specs.Blocks.{own_place, row_place}
 
 -- an axis in use has two layers of ghosts

@@ -1,16 +1,16 @@
 -- What the rows of a block's list have is what the mesh sees there.
-use Rattle.std.proofs.Common.{◌≡◌, ℕ, zero, suc, ◌+◌, ◌-◌, ◌<◌, ◌≤◌, Bool, true, false, cond, not, Option, Some, None, List, refl, arith, ap, subst, sym, ◌∙◌, slice_index, inl, inr}
+use Rattle.std.proofs.Common.{◌≡◌, ℕ, ◌+◌, ◌-◌, ◌<◌, Bool, true, false, cond, Option, Some, List, arith, ap, subst, sym, ◌∙◌, slice_index, inl, inr}
 use Rattle.std.specs.Prelude.{option_and_then}
 use Rattle.std.proofs.lemmas.Bool.{cases_lt, cases_eq}
 use Rattle.morton_order.specs.declared.space.Loc.{Loc}
 use Rattle.block_tree.specs.Tree.{IsLeaf}
-use Rattle.mesh_rules.specs.Mesh.{IsMesh, Mesh, OnLeaf, block_of, cells_along, is_inner, stored}
+use Rattle.mesh_rules.specs.Mesh.{OnLeaf, cells_along, is_inner, stored}
 use Rattle.mesh_rules.specs.Look.{look}
 use Rattle.mesh_rules.specs.Faces.{Looks, cell_across, looks_at, seen_in, seen_next, seen_second}
 use Rattle.mesh_laws.proofs.Looks.{look_law}
 use Rattle.block_layout.specs.Indices.{IsWithin, with_along}
 use Rattle.block_layout.specs.Layouts.{cells_along as layout_cells}
-use Rattle.block_geometry.specs.Blocks.{FieldBlock, IsFieldBlock, cell_in, end_of, ghost_along, own_place, row_place}
+use Rattle.block_geometry.specs.Blocks.{FieldBlock, IsFieldBlock, cell_in, ghost_along, own_place, row_place}
 use Rattle.block_geometry.specs.Contents.{HasInterior, SeesAround, looks_in_row}
 use Rattle.block_geometry.specs.Laws.{RowsAreLooks}
 use Rattle.block_geometry.proofs.Cells.{across_down, across_up, block_of_cell_in, within_along}

@@ -1,5 +1,5 @@
 -- The worked places, computed.
-use Rattle.std.proofs.Common.{◌≡◌, ℕ, List, [], ◌∷◌, refl, sym, subst}
+use Rattle.std.proofs.Common.{◌≡◌, [], ◌∷◌, refl}
 use Rattle.block_layout.specs.declared.layout.Layout.{Layout}
 use Rattle.block_geometry.specs.Laws.{PlaneOfFour, RowOfFour, WorkedPlaces}
 

@@ -1,5 +1,5 @@
 -- A face is closed just where the face of the domain reflects.
-use Rattle.std.proofs.Common.{◌≡◌, ◌==◌, ◌&&◌, ◌||◌, ℕ, zero, suc, ◌+◌, ◌-◌, ◌<◌, ◌≤◌, Bool, true, false, cond, not, Option, Some, None, List, refl, arith, ap, subst, sym, ◌∙◌, slice_index, inl, inr}
+use Rattle.std.proofs.Common.{◌≡◌, ◌==◌, ◌&&◌, ◌||◌, ℕ, ◌+◌, ◌-◌, ◌<◌, Bool, true, false, cond, not, Option, Some, None, List, refl, arith, ap, subst, sym, ◌∙◌, slice_index, inl, inr}
 use Rattle.std.specs.Option.{option_map}
 use Rattle.std.proofs.lemmas.Bool.{cases_lt, cases_eq}
 use Rattle.std.proofs.lemmas.Bool.Decides.{nat_tests}
@@ -10,7 +10,6 @@ use Rattle.problem_set.specs.declared.words.FaceKind.TheVariants.{Periodic, Outf
 use Rattle.mesh_rules.specs.Mesh.{cells_along}
 use Rattle.mesh_rules.specs.Fields.{kind_at}
 use Rattle.mesh_rules.specs.Faces.{cell_across}
-use Rattle.block_layout.specs.Sizes.{IsCellCount, IsLayout}
 use Rattle.block_layout.specs.declared.layout.Layout.{Layout}
 use Rattle.block_layout.specs.Indices.{IsWithin, with_along}
 use Rattle.block_layout.specs.Layouts.{cells_along as layout_cells}

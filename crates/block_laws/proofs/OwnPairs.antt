@@ -1,5 +1,5 @@
 -- The fluxes of a block are the mesh's own pairs.
-use Rattle.std.proofs.Common.{◌≡◌, ◌==◌, ℕ, zero, suc, ◌+◌, ◌-◌, ◌*◌, ◌<◌, ◌≤◌, Bool, true, false, cond, Option, Some, None, List, [], ◌∷◌, not, refl, arith, ap, subst, sym, ◌∙◌, slice_index}
+use Rattle.std.proofs.Common.{◌≡◌, ℕ, zero, suc, ◌+◌, ◌-◌, ◌*◌, ◌<◌, Bool, true, false, cond, Option, Some, None, List, [], ◌∷◌, not, refl, arith, ap, sym, ◌∙◌, slice_index}
 use Rattle.mesh_num.specs.Portion.{portion}
 use Rattle.morton_order.specs.declared.space.Loc.{Loc}
 use Rattle.morton_order.specs.Space.{child}
@@ -11,10 +11,9 @@ use Rattle.mesh_rules.specs.Faces.{Looks, Pair, cell_across, face_pair, face_pai
 use Rattle.block_layout.specs.declared.layout.Layout.{Layout}
 use Rattle.block_layout.specs.Indices.{IsWithin, added, with_along}
 use Rattle.block_layout.specs.Layouts.{cells_along as layout_cells, ghost_layers, place, widths}
-use Rattle.block_layout.specs.Faces.{face_extents, face_number, face_of}
+use Rattle.block_layout.specs.Faces.{face_extents, face_of}
 use Rattle.block_geometry.specs.Blocks.{FieldBlock, IsFieldBlock, cell_in, row_place}
-use Rattle.block_geometry.specs.Contents.{HasInterior, HasOwnPairs, SeesAround, is_finer_in, looks_in_row, pair_of}
-use Rattle.block_geometry.proofs.Cells.{within_along}
+use Rattle.block_geometry.specs.Contents.{HasInterior, SeesAround, is_finer_in, looks_in_row, pair_of}
 use Rattle.block_geometry.proofs.Rows.{two_layers}
 use Rattle.block_geometry.proofs.Seen.{rows_are_looks, three_axes}
 use Rattle.upwind_fluxes.specs.declared.donor.Donor.{Donor}

@@ -1,5 +1,5 @@
 -- The update of a block by its pairs is the mesh's stage.
-use Rattle.std.proofs.Common.{◌≡◌, ℕ, ◌+◌, ◌-◌, ◌<◌, true, false, List, ap, sym, subst, ◌∙◌, slice_index}
+use Rattle.std.proofs.Common.{◌≡◌, ℕ, ◌+◌, ◌-◌, true, false, List, ap, ◌∙◌, slice_index}
 use Rattle.mesh_rules.specs.Sums.{sum_to}
 use Rattle.mesh_rules.specs.Stage.{gain, loss}
 use Rattle.mesh_rules.specs.Mesh.{stored}
@@ -7,7 +7,7 @@ use Rattle.mesh_laws.proofs.Totals.{sum_to-same}
 use Rattle.block_layout.specs.Indices.{IsWithin}
 use Rattle.block_layout.specs.Faces.{face_of}
 use Rattle.block_geometry.specs.Blocks.{FieldBlock, IsFieldBlock, cell_in, own_place}
-use Rattle.block_geometry.specs.Contents.{HasInterior, HasPairs, pair_of}
+use Rattle.block_geometry.specs.Contents.{HasPairs, pair_of}
 use Rattle.block_laws.specs.Update.{UpdateIsStage, gained, lost}
 
 both : (a b c d : ℕ) → a ≡ c → b ≡ d → a + b ≡ c + d
