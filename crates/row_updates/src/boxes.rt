@@ -1,0 +1,1 @@
+//! Updating a box.
