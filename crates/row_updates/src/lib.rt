@@ -1,11 +1,13 @@
-//! Boxes of numbers that are updated in place by the boxes beside them.
+//! Rows of numbers that are updated in place by the rows beside them.
 //!
-//! What a cell of a block becomes in a stage hangs on its own total and on four numbers beside it: on what passes its two
-//! faces of an axis, or on the totals of its neighbours along it. [`update_box`] goes over a box of one list, row by row
-//! along x1, by a [`RowRule`] that reads the rows of four other boxes and writes one.
+//! A [`RowRule`] writes one row by what stands in it and in four other rows, number by number. [`update_planes`] goes by a
+//! rule over the rows of a list that lie at equal steps, and over those of two lists that are read.
 #![tactic(auto)]
 
+mod planes;
 mod rows;
 mod rule;
 
+pub use planes::update_planes;
 pub use rule::RowRule;
+pub use strided_rows::{Planes, Rows};

@@ -11,7 +11,14 @@ pub trait RowRule {
     ghost takes: { Self → Numbers → Type 0 };
 
     /// Writes what each number becomes.
-    fn update_row(&self, into: &mut [u64], first: &[u64], second: &[u64], third: &[u64], fourth: &[u64])
+    fn update_row(
+        &self,
+        into: &mut [u64],
+        first: &[u64],
+        second: &[u64],
+        third: &[u64],
+        fourth: &[u64],
+    )
         requires firsts { length first.now ≡ length into.old }
         requires seconds { length second.now ≡ length into.old }
         requires thirds { length third.now ≡ length into.old }

@@ -1,21 +1,17 @@
 -- What passes the faces of a block by the second order.
-use Rattle.std.specs.Prelude.{◌≡◌, ℕ, ◌+◌, ◌-◌, ◌/◌, ◌<◌, Bool, cond, min, List, [], ◌∷◌, slice_index}
+use Rattle.std.specs.Prelude.{◌≡◌, ℕ, ◌<◌, Bool, cond, List, [], ◌∷◌, slice_index}
 use Rattle.mesh_num.specs.Portion.{portion}
 use Rattle.block_layout.specs.declared.layout.Layout.{Layout}
 use Rattle.block_layout.specs.Indices.{IsWithin, added, with_along}
 use Rattle.block_layout.specs.Layouts.{ghost_layers, place}
 use Rattle.block_layout.specs.Faces.{face_extents, face_number}
+use Rattle.stage_rules.specs.Rules.{limited}
+use Rattle.upwind_portions.specs.declared.fraction.Fraction.{Fraction}
 use Rattle.upwind_fluxes.specs.declared.donor.Donor.{Donor}
 use Rattle.upwind_fluxes.specs.declared.donor.Donor.TheVariants.{Below, Above}
 use Rattle.upwind_fluxes.specs.declared.rates.LevelRates.{LevelRates}
-use Rattle.upwind_fluxes.specs.Fluxes.{is_closed}
+use Rattle.upwind_fluxes.specs.Fluxes.{AreAlong, is_closed}
 use Rattle.upwind_fluxes.specs.Rates.{along, rate_of}
-
--- a cell's total reconstructed at the face ahead of it with a limited slope: half of the smaller difference to its two
--- neighbours more where the totals rise towards the face, and less where they fall; 4 between 0 and 8 counts for 6,
--- 4 between 8 and 0 for 2, and 8 between 4 and 0 for itself
-abbrev pub limited : ℕ → ℕ → ℕ → ℕ
-limited behind here ahead = here + min (here - behind) (ahead - here) / 2 - min (behind - here) (here - ahead) / 2
 
 -- the totals along an axis at a face, by rising coordinate: of the second and the first cell below it, and of the first and
 -- the second cell above it, which are numbered 0 to 3
@@ -36,3 +32,11 @@ slope_flux l donor rate denominator closed cells axis i = cond (is_closed l clos
 abbrev pub AreSlopeFluxes : Layout → Donor → LevelRates → List Bool → List ℕ → List ℕ → Type 0
 AreSlopeFluxes l donor rates closed cells list = (axis : ℕ) (i : List ℕ) → axis < l.dims → IsWithin (face_extents l axis) i →
     slice_index list (face_number l axis i) ≡ slope_flux l donor (rate_of (along rates axis) donor) rates.denominator closed cells axis i
+
+-- the cells at one side of the faces of an axis pay by that rate
+abbrev pub SlopesPaid : Layout → ℕ → Donor → ℕ → ℕ → List ℕ → List ℕ → Type 0
+SlopesPaid l axis donor rate denominator cells list = AreAlong l axis (λ i. portion (donor_at l donor cells axis i) rate denominator) list
+
+-- they pay by the rate of a fraction, and nothing through closed faces
+abbrev pub SlopesAlong : Layout → ℕ → Donor → Fraction → List Bool → List ℕ → List ℕ → Type 0
+SlopesAlong l axis donor f closed cells list = AreAlong l axis (slope_flux l donor f.rate f.denominator closed cells axis) list

@@ -1,3 +1,4 @@
+pub mod Axis
 pub mod Passed
 pub mod Stage
 pub mod Update

@@ -1,8 +1,7 @@
 -- What passes the faces at one side of a block.
-use Rattle.std.specs.Prelude.{ℕ, zero, suc, ◌+◌, Bool, cond, List, [], ◌∷◌, slice_index}
+use Rattle.std.specs.Prelude.{ℕ, zero, suc, ◌+◌, Bool, List, [], ◌∷◌, slice_index}
 use Rattle.block_layout.specs.declared.layout.Layout.{Layout}
 use Rattle.block_layout.specs.Indices.{with_along}
-use Rattle.block_layout.specs.Faces.{face_number}
 use Rattle.upwind_fluxes.specs.Fluxes.{side_at}
 use Rattle.transport_kernel.specs.Update.{listed}
 

@@ -15,13 +15,20 @@ sum_axes (suc axis) each = sum_axes axis each + each axis
 abbrev pub face_beside : List ℕ → ℕ → Bool → List ℕ
 face_beside i axis high = with_along axis (slice_index i axis + cond high 1 0) i
 
--- what a cell gains: what passes to the right through its low faces, and to the left through its high faces
-abbrev pub gain : ℕ → (ℕ → List ℕ → ℕ) → (ℕ → List ℕ → ℕ) → List ℕ → ℕ
-gain dims right left i = sum_axes dims (λ axis. right axis (face_beside i axis false) + left axis (face_beside i axis true))
+-- what a cell gains along an axis: what passes to the right through its low face, and to the left through its high face
+abbrev pub gain_along : (ℕ → List ℕ → ℕ) → (ℕ → List ℕ → ℕ) → List ℕ → ℕ → ℕ
+gain_along right left i axis = right axis (face_beside i axis false) + left axis (face_beside i axis true)
 
--- what it loses: to the left through its low faces, and to the right through its high faces
+-- what it loses along an axis: to the left through its low face, and to the right through its high face
+abbrev pub loss_along : (ℕ → List ℕ → ℕ) → (ℕ → List ℕ → ℕ) → List ℕ → ℕ → ℕ
+loss_along right left i axis = left axis (face_beside i axis false) + right axis (face_beside i axis true)
+
+-- what it gains and loses along the axes in use
+abbrev pub gain : ℕ → (ℕ → List ℕ → ℕ) → (ℕ → List ℕ → ℕ) → List ℕ → ℕ
+gain dims right left i = sum_axes dims (gain_along right left i)
+
 abbrev pub loss : ℕ → (ℕ → List ℕ → ℕ) → (ℕ → List ℕ → ℕ) → List ℕ → ℕ
-loss dims right left i = sum_axes dims (λ axis. left axis (face_beside i axis false) + right axis (face_beside i axis true))
+loss dims right left i = sum_axes dims (loss_along right left i)
 
 -- what a list says of the face of an index along an axis
 abbrev pub listed : Layout → List ℕ → ℕ → List ℕ → ℕ

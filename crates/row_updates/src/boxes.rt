@@ -1,1 +1,0 @@
-//! Updating a box.

@@ -1,0 +1,3 @@
+pub mod AlongFaces
+pub mod Axes
+pub mod Places
