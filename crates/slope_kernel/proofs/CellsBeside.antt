@@ -1,10 +1,10 @@
 -- The cells beside the faces of an axis.
-use Rattle.std.proofs.Common.{◌≡◌, ◌≢◌, ℕ, zero, suc, ◌+◌, ◌*◌, ◌<◌, ◌≤◌, ◌^◌, List, [], ◌∷◌, length, slice_index, sym, ◌∙◌, ap, subst, arith, refl, zero-add, All}
+use Rattle.std.proofs.Common.{◌≡◌, ℕ, zero, suc, ◌<◌, ◌≤◌, List, length, slice_index, sym, ◌∙◌, ap, subst, arith, refl, zero-add, All}
 use Rattle.mesh_num.specs.Portion.{portion}
 use Rattle.block_layout.specs.declared.layout.Layout.{Layout}
 use Rattle.block_layout.specs.Sizes.{IsLayout}
-use Rattle.block_layout.specs.Indices.{IsWithin, count_of, with_along}
-use Rattle.block_layout.specs.Layouts.{cells_along, ghost_layers, len}
+use Rattle.block_layout.specs.Indices.{IsWithin}
+use Rattle.block_layout.specs.Layouts.{len}
 use Rattle.block_layout.specs.Faces.{face_count, face_extents, face_number, first_face}
 use Rattle.block_layout.proofs.FaceNumbers.{faces_in_use, rising, whole_count}
 use Rattle.block_layout.proofs.InBlock.{two_layers}
@@ -12,8 +12,7 @@ use Rattle.cell_boxes.specs.declared.boxes.BoxIn.{BoxIn}
 use Rattle.cell_boxes.specs.Boxes.{HasCells, IsBoxIn, StaysOffBox, address}
 use Rattle.cell_boxes.proofs.Rows.{address_within}
 use Rattle.stage_rules.specs.Rules.{limited}
-use Rattle.row_updates.specs.Numbers.{Numbers}
-use Rattle.box_updates.specs.Boxes.{IsUpdated, Sources}
+use Rattle.box_updates.specs.Boxes.{IsUpdated}
 use Rattle.upwind_fluxes.specs.declared.donor.Donor.{Donor}
 use Rattle.upwind_fluxes.specs.declared.donor.Donor.TheVariants.{Below, Above}
 use Rattle.upwind_fluxes.specs.Fluxes.{OthersStay}

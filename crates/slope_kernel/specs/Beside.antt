@@ -1,5 +1,5 @@
 -- For the code: where the cells beside the faces of an axis lie.
-use Rattle.std.specs.Prelude.{ℕ, List, [], ◌∷◌}
+use Rattle.std.specs.Prelude.{ℕ, [], ◌∷◌}
 use Rattle.block_layout.specs.declared.layout.Layout.{Layout}
 use Rattle.block_layout.specs.Indices.{with_along}
 use Rattle.block_layout.specs.Layouts.{ghost_layers, widths}

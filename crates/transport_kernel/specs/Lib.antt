@@ -1,4 +1,2 @@
 pub mod Axis
-pub mod Passed
-pub mod Stage
 pub mod Update

@@ -1,28 +1,16 @@
-use crate::{LevelRates, fluxes, update};
+use crate::update;
 use block_layout::Layout;
-use problem_set::Rates;
 use std::test::Fail;
 
-/// Four cells between their ghosts, with 8 in the first one and 3 in the last and 16 beyond: a quarter moves to the right
-/// and an eighth to the left, and the low side is closed.
+/// Four cells between their ghosts, of which the first pays 2 to the right, and the ghost above the last pays 2 to the left.
 #[test]
 fn a_row_moves_both_ways(rt: HostRuntime) -> Result<(), Fail> {
     let layout = Layout {
         dims: 1,
         cells: [4, 1, 1],
     };
-    let along = Rates { right: 2, left: 1 };
-    let still = Rates { right: 0, left: 0 };
-    let rates = LevelRates {
-        denominator: 8,
-        axes: [along, still, still],
-    };
-    let closed = [true, false, false, false, false, false];
     let mut cells = [5, 5, 8, 0, 0, 3, 16, 0];
-    let mut right = [9; 5];
-    let mut left = [9; 5];
-    fluxes(&layout, &rates, closed, &cells, &mut right, &mut left);
-    update(&layout, &mut cells, &right, &left);
+    update(&layout, &mut cells, &[0, 2, 0, 0, 0], &[0, 0, 0, 0, 2]);
     assert_eq!(rt; cells.as_slice(), [5, 5, 6, 2, 0, 5, 16, 0].as_slice());
     Ok(())
 }
