@@ -1,5 +1,5 @@
 -- Sums and shares between boxes.
-use Rattle.std.specs.Prelude.{◌≡◌, ℕ, ◌<◌, ◌≤◌, ◌^◌, List, slice_index}
+use Rattle.std.specs.Prelude.{◌≡◌, ℕ, ◌<◌, ◌≤◌, List, slice_index}
 use Rattle.block_layout.specs.Indices.{IsWithin}
 use Rattle.cell_boxes.specs.declared.boxes.BoxIn.{BoxIn}
 use Rattle.cell_boxes.specs.Boxes.{address}

@@ -1,5 +1,5 @@
 -- Coarse cells and the fine cells in them.
-use Rattle.std.specs.Prelude.{ℕ, ◌+◌, ◌*◌, ◌/◌, ◌%◌, List, [], ◌∷◌, slice_index}
+use Rattle.std.specs.Prelude.{ℕ, ◌*◌, ◌/◌, ◌%◌, List, [], ◌∷◌, slice_index}
 use Rattle.mesh_num.specs.Share.{share}
 use Rattle.morton_order.specs.Space.{factor}
 use Rattle.block_layout.specs.Indices.{added, count_of, index_of, number_of}

@@ -1,21 +1,12 @@
 -- For the code: rows of boxes, and the numbers along them.
 use Rattle.std.specs.Prelude.{◌≡◌, ℕ, ◌+◌, ◌*◌, ◌<◌, ◌≤◌, ◌^◌, List, [], ◌∷◌, length, slice_index}
 use Rattle.mesh_rules.specs.Sums.{sum_to}
-use Rattle.cell_boxes.specs.declared.boxes.BoxIn.{BoxIn}
-use Rattle.cell_boxes.specs.Boxes.{HasCells, IsBoxIn, address}
+use Rattle.cell_boxes.specs.Boxes.{HasCells, IsBoxIn}
+use Rattle.block_regions.specs.Rows.{IsRowOf}
 use Rattle.restrict_prolong.specs.Refined.{factors, refined}
 use Rattle.restrict_prolong.specs.Boxes.{AreFactors, SumsBelow, at_box}
 use Rattle.restrict_prolong.specs.declared.sums.Sums.{Sums}
 use Rattle.restrict_prolong.specs.declared.shares.Shares.{Shares}
-
--- a row of a box
-pub record IsRowOf (extents : List ℕ) (row plane : ℕ) : Type 0 where
-  pub row_in : row < slice_index extents 1
-  pub plane_in : plane < slice_index extents 2
-
--- where a row begins
-abbrev pub row_start : BoxIn → ℕ → ℕ → ℕ
-row_start b row plane = address b (0 ∷ row ∷ plane ∷ [])
 
 -- the sum of the factor numbers of a fine row in the place of one of a coarse row
 abbrev pub row_sum : ℕ → List ℕ → ℕ → ℕ
@@ -50,7 +41,7 @@ pub record AreSums (s : Sums) (from : List ℕ) (len : ℕ) : Type 0 where
 -- and for a row of them
 pub record IsSumRow (s : Sums) (from : List ℕ) (len row plane : ℕ) : Type 0 where
   pub sums : AreSums s from len
-  pub row : IsRowOf s.extents row plane
+  pub lies_in : IsRowOf s.extents row plane
   pub small : SumsBelow (2 ^ 62) s.factors s.extents from s.from_box
 
 -- a row with the sums of a fine plane added
@@ -67,4 +58,4 @@ pub record IsShareRow (s : Shares) (from : List ℕ) (len row plane : ℕ) : Typ
   pub cells : HasCells s.coarse
   pub lies : IsBoxIn s.coarse s.from_box (length from)
   pub whole : len ≡ 2 * slice_index s.coarse 0
-  pub row : IsRowOf (refined (factors s.dims) s.coarse) row plane
+  pub lies_in : IsRowOf (refined (factors s.dims) s.coarse) row plane

@@ -5,13 +5,15 @@
 //! in larger ones, as the layers of a block next to a side do. All go row by row along x1.
 #![tactic(auto)]
 
-mod box_rows;
+mod laws;
 mod prolongation;
 mod restriction;
 mod row_sums;
-mod row_starts;
 mod shares;
 mod sums;
+mod whole_boxes;
 
+pub use laws::restriction_laws;
 pub use prolongation::prolong_box;
 pub use restriction::restrict_box;
+pub use whole_boxes::{factors, prolong, restrict};

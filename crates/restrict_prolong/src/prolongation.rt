@@ -5,8 +5,8 @@ ghost use Rattle.cell_boxes.specs.Boxes.{HasCells, IsBoxIn, StaysOffBox};
 ghost use Rattle.restrict_prolong.specs.Refined.{factors, refined};
 ghost use Rattle.restrict_prolong.specs.Boxes.{HasShares};
 
-use crate::box_rows::write_box_rows;
-use crate::shares::Shares;
+use crate::shares::{Shares, refined_extents};
+use block_regions::write_box_rows;
 use cell_boxes::BoxIn;
 
 /// Writes the fine cells in a box of coarse ones of these extents, each by its share of the coarse cell that it lies in. Along
@@ -32,10 +32,6 @@ pub fn prolong_box(
         coarse: extents,
         from_box,
     };
-    let fine = [
-        2 * extents[0],
-        along(dims, 1, extents[1]),
-        along(dims, 2, extents[2]),
-    ];
+    let fine = refined_extents(dims, extents);
     write_box_rows(&shares, fine, from, into, into_box);
 }

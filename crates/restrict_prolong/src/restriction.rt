@@ -5,8 +5,8 @@ ghost use Rattle.cell_boxes.specs.Boxes.{HasCells, IsBoxIn, StaysOffBox};
 ghost use Rattle.restrict_prolong.specs.Refined.{refined};
 ghost use Rattle.restrict_prolong.specs.Boxes.{AreFactors, HasSums, SumsBelow};
 
-use crate::box_rows::write_box_rows;
 use crate::sums::Sums;
+use block_regions::write_box_rows;
 use cell_boxes::BoxIn;
 
 /// Writes a box of coarse cells of these extents by the sums over the fine cells of another list's box. Along each axis one fine

@@ -3,9 +3,10 @@
 ghost use Rattle.std.specs.Prelude.{◌≡◌, ◌+◌, ◌*◌, ◌/◌, ◌%◌, ◌<◌, ◌≤◌, ◌^◌, ℕ, [], ◌∷◌, length, slice_index};
 ghost use Rattle.mesh_num.specs.Share.{share as share_of};
 ghost use Rattle.morton_order.specs.Space.{factor};
+ghost use Rattle.restrict_prolong.specs.Refined.{factors as factors_of, refined};
+ghost use Rattle.restrict_prolong.specs.Indices.{AreIndices};
 
-use crate::box_rows::BoxRows;
-use crate::row_starts::row_start;
+use block_regions::{BoxRows, row_start};
 use cell_boxes::BoxIn;
 
 /// The shares of the fine cells in a box of coarse ones.
@@ -23,8 +24,9 @@ fn share_by_shift(q: u64, dims: u32, j: u64) -> u64
     requires part { j < 2 ^ dims }
     ensures { result ≡ share_of q (2 ^ dims) j }
 {
-    let rest = q & ((1u64 << dims) - 1);
-    (q >> dims) + u64::from(j < rest)
+    let even = q >> dims;
+    let rest = q - (even << dims);
+    if j < rest { even + 1 } else { even }
 }
 
 /// Writes the shares of the parts `j` and `j + 1` of each number side by side.
@@ -47,10 +49,31 @@ fn halved(dims: u32, axis: u32, fine: usize) -> (usize, u64)
     ensures half { result.1 ≡ fine % factor dims axis }
 {
     if axis < dims {
-        (fine >> 1, (fine & 1) as u64)
+        let coarse = fine >> 1;
+        (coarse, (fine - 2 * coarse) as u64)
     } else {
         (fine, 0)
     }
+}
+
+/// How many fine cells there are along an axis in so many coarse ones.
+fn refined_along(dims: u32, axis: u32, coarse: usize) -> usize
+    requires { factor dims axis * coarse < 2 ^ 64 }
+    ensures { result ≡ factor dims axis * coarse }
+{
+    if axis < dims { 2 * coarse } else { coarse }
+}
+
+/// The fine cells along each axis in so many coarse ones.
+pub(crate) fn refined_extents(dims: u32, extents: [usize; 3]) -> [usize; 3]
+    requires { AreIndices (refined (factors_of dims) extents) }
+    ensures { result ≡ refined (factors_of dims) extents }
+{
+    [
+        refined_along(dims, 0, extents[0]),
+        refined_along(dims, 1, extents[1]),
+        refined_along(dims, 2, extents[2]),
+    ]
 }
 
 impl BoxRows for Shares {
@@ -66,6 +89,11 @@ impl BoxRows for Shares {
         let (y, b2) = halved(self.dims, 1, row);
         let (z, b3) = halved(self.dims, 2, plane);
         let at = row_start(&self.coarse, &self.from_box, from.len(), y, z);
-        spread_row(&from[at..at + self.coarse[0]], self.dims, 2 * b2 + 4 * b3, into);
+        spread_row(
+            &from[at..at + self.coarse[0]],
+            self.dims,
+            2 * b2 + 4 * b3,
+            into,
+        );
     }
 }

@@ -3,9 +3,8 @@
 ghost use Rattle.std.specs.Prelude.{◌≡◌, ◌*◌, ◌<◌, ◌^◌, [], ◌∷◌, length, slice_index};
 ghost use Rattle.restrict_prolong.specs.Rows.{AddsPlane, AreSums, PlaneBelow};
 
-use crate::box_rows::BoxRows;
-use crate::row_starts::row_start;
 use crate::row_sums::add_row;
+use block_regions::{BoxRows, row_start};
 use cell_boxes::BoxIn;
 
 /// The sums over the fine cells of a box.
