@@ -1,0 +1,5 @@
+pub mod Steps
+pub mod Cells
+pub mod Rows
+pub mod Seen
+mod Worked

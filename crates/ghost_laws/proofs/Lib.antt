@@ -1,0 +1,5 @@
+pub mod Sizes
+pub mod Layers
+pub mod Refined
+pub mod Ghosts
+mod Worked
