@@ -1,6 +1,6 @@
 //! Where the cells and the faces of a block lie.
 
-ghost use Rattle.std.specs.Prelude.{◌≡◌, ◌<◌};
+ghost use Rattle.std.specs.Prelude.{◌≡◌, ◌<◌, ◌≤◌, slice_index};
 ghost use Rattle.block_layout.specs.Faces.{face_extents};
 ghost use Rattle.transport_kernel.specs.Axis.{cell_extents, cells_box, faces_box};
 
@@ -34,9 +34,10 @@ pub(crate) fn interior_box(layout: &Layout) -> BoxIn
 }
 
 /// The faces of an axis along each axis.
-fn face_widths(layout: &Layout, axis: u32) -> [usize; 3]
+pub(crate) fn face_widths(layout: &Layout, axis: u32) -> [usize; 3]
     requires { axis < layout.now.dims }
-    ensures { result ≡ face_extents layout.now axis }
+    ensures value { result ≡ face_extents layout.now axis }
+    ensures most { (slice_index result 0 ≤ 65) × (slice_index result 1 ≤ 65) }
 {
     let mut extents = cell_extents(layout);
     extents[axis as usize] += 1;
