@@ -1,15 +1,13 @@
 -- Buffers by field.
-use Rattle.std.proofs.Common.{◌≡◌, ◌≢◌, ◌⊎◌, ◌∙◌, sym, ap, subst, refl, inl, inr, ℕ, zero, suc, ◌+◌, ◌<◌, ◌≤◌, Bool, true, false, ◌||◌, cond, nat_eq, nat_lt, List, [], ◌∷◌, ◌++◌, length, map, drop, take, replicate, slice_index, slice_index_or, slice_set, arith}
-use Rattle.std.specs.Prelude.{All, count_by}
-use Rattle.std.specs.List.{insert}
-use Rattle.std.proofs.lemmas.Bool.{cases_eq, eq-eqb, ne_eqb, cond-true, cond-false, false≢true, cases_lt, lt-ltb, le-ltb}
-use Rattle.std.proofs.lemmas.List.{get_or-set_same, get_or-set_other, length-set, length-map, ext_get_or, get_or-map, get_or-replicate, get_or_past, length-replicate}
-use Rattle.std.proofs.lemmas.List.Elements.{All-head, All-tail, All-cons, All-nil}
-use Rattle.block_layout.specs.declared.layout.Layout.{Layout}
+use Rattle.std.proofs.Common.{◌≡◌, ◌≢◌, ◌∙◌, sym, ap, subst, refl, inl, inr, ℕ, ◌+◌, ◌<◌, ◌≤◌, Bool, true, false, ◌||◌, cond, nat_eq, List, [], ◌∷◌, ◌++◌, length, map, slice_index, slice_set, arith}
+use Rattle.std.specs.Prelude.{All}
+use Rattle.std.proofs.lemmas.Bool.{cases_eq, eq-eqb, ne_eqb, cond-true, cond-false, false≢true}
+use Rattle.std.proofs.lemmas.List.{get_or-set_same, get_or-set_other, length-set, get_or_past}
+use Rattle.std.proofs.lemmas.List.Elements.{All-head, All-tail}
 use Rattle.field_bufs.specs.declared.buf.FieldBuf.{FieldBuf}
 use Rattle.field_bufs.specs.Buffers.{cells_of, total_at}
-use Rattle.react_kernel.specs.Blocks.{IsOf, Rise, has_field, without_cells}
-use Rattle.react_kernel.specs.BlockSteps.{gathered, held_sum, sum_there, with_total, zeroed}
+use Rattle.react_kernel.specs.Blocks.{Rise, has_field, without_cells}
+use Rattle.react_kernel.specs.BlockSteps.{gathered, with_total, zeroed}
 
 abbrev pub no_buf : FieldBuf
 no_buf = record { block = 0; field = 0; stamp = 0; cells = []; right = []; left = [] }

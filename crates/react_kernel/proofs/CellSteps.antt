@@ -1,6 +1,5 @@
 -- A kernel in one cell of a block, and in one more.
-use Rattle.std.proofs.Common.{◌≡◌, ◌≢◌, ◌⊎◌, ◌∙◌, sym, ap, subst, refl, inl, inr, ℕ, zero, suc, ◌+◌, ◌*◌, ◌<◌, ◌≤◌, ◌^◌, Bool, true, false, ◌||◌, cond, nat_eq, List, [], ◌∷◌, ◌++◌, length, map, replicate, slice_index, slice_index_or, slice_set, sum, arith}
-use Rattle.std.specs.Prelude.{All}
+use Rattle.std.proofs.Common.{◌≡◌, ◌∙◌, sym, ap, subst, refl, inl, inr, ℕ, zero, suc, ◌<◌, ◌≤◌, Bool, true, false, ◌||◌, cond, nat_eq, List, ◌++◌, length, map, replicate, slice_index, slice_index_or, sum, arith}
 use Rattle.std.proofs.lemmas.Bool.{cases_eq, false≢true, cases_lt, cond-true, cond-false, eq-eqb, ne_eqb}
 use Rattle.std.proofs.lemmas.List.{length-set, ext_get_or, length-replicate}
 use Rattle.std.proofs.lemmas.List.Elements.{All-map}
@@ -10,8 +9,8 @@ use Rattle.package_fields.specs.Kernel.{KernelLaws, Reacted, nothing, with_react
 use Rattle.block_layout.specs.declared.layout.Layout.{Layout}
 use Rattle.block_layout.specs.Layouts.{len}
 use Rattle.field_bufs.specs.declared.buf.FieldBuf.{FieldBuf}
-use Rattle.field_bufs.specs.Buffers.{HasSizes, total_at}
-use Rattle.react_kernel.specs.Blocks.{AreOf, IsOf, Rise, has_field, totals_at, without_cells}
+use Rattle.field_bufs.specs.Buffers.{total_at}
+use Rattle.react_kernel.specs.Blocks.{AreOf, IsOf, has_field, totals_at, without_cells}
 use Rattle.react_kernel.specs.BlockSteps.{AreFresh, CellStep, HasRoom, IsFresh, with_total}
 use Rattle.react_kernel.proofs.Buffers.{absent_total, bare_written, has_same, joined_first, joined_second, rise_same, total_written}
 use Rattle.react_kernel.proofs.Cells.{at_totals, length_totals, wide_fresh, wide_of}

@@ -1,20 +1,19 @@
 -- A cell of a block, and what the fields with buffers hold of it.
-use Rattle.std.proofs.Common.{◌≡◌, ◌≢◌, ◌⊎◌, ◌∙◌, sym, ap, subst, refl, inl, inr, ℕ, zero, suc, ◌+◌, ◌<◌, ◌≤◌, Bool, true, false, ◌||◌, cond, nat_eq, List, [], ◌∷◌, ◌++◌, length, map, replicate, slice_index, slice_index_or, slice_set, sum, arith}
+use Rattle.std.proofs.Common.{◌≡◌, ◌∙◌, sym, ap, subst, refl, inl, inr, ℕ, zero, suc, ◌+◌, ◌<◌, ◌≤◌, Bool, true, false, ◌||◌, cond, List, [], ◌∷◌, ◌++◌, length, replicate, slice_index, slice_set, sum, arith}
 use Rattle.std.specs.Prelude.{All}
-use Rattle.std.proofs.lemmas.Bool.{cases_eq, false≢true, cases_lt, cond-true, cond-false, eq-eqb, ne_eqb}
-use Rattle.std.proofs.lemmas.List.{get_or-set_same, get_or-set_other, length-set, ext_get_or, get_or-replicate, length-replicate}
+use Rattle.std.proofs.lemmas.Bool.{cases_eq, false≢true, cases_lt, cond-false}
+use Rattle.std.proofs.lemmas.List.{get_or-set_other, length-set, ext_get_or, length-replicate}
 use Rattle.std.proofs.lemmas.List.Sums.{sum_by-set, get_or-le-sum_by}
 use Rattle.std.proofs.lemmas.List.Folds.{sum_by-replicate}
 use Rattle.std.proofs.lemmas.List.FromFn.{get_or-map-range_with_len, length-map-range_with_len}
-use Rattle.std.proofs.lemmas.List.Elements.{All-head, All-tail, All-cons, All-map}
-use Rattle.package_fields.specs.Kernel.{Reacted}
+use Rattle.std.proofs.lemmas.List.Elements.{All-head, All-tail}
 use Rattle.block_layout.specs.declared.layout.Layout.{Layout}
 use Rattle.block_layout.specs.Layouts.{len}
 use Rattle.field_bufs.specs.declared.buf.FieldBuf.{FieldBuf}
-use Rattle.field_bufs.specs.Buffers.{HasSizes, total_at}
-use Rattle.react_kernel.specs.Blocks.{AreOf, IsOf, Rise, has_field, totals_at, without_cells}
-use Rattle.react_kernel.specs.BlockSteps.{AreFresh, CellStep, HasRoom, IsFresh, gathered, held_sum, sum_there, with_total, zeroed}
-use Rattle.react_kernel.proofs.Buffers.{absent_total, at_gathered, at_zeroed, bare_written, has_same, here, joined, joined_first, joined_second, length_gathered, length_zeroed, not_here, rise_same, total_written}
+use Rattle.field_bufs.specs.Buffers.{total_at}
+use Rattle.react_kernel.specs.Blocks.{AreOf, Rise, has_field, totals_at}
+use Rattle.react_kernel.specs.BlockSteps.{AreFresh, gathered, held_sum, sum_there, zeroed}
+use Rattle.react_kernel.proofs.Buffers.{absent_total, at_gathered, at_zeroed, here, joined, length_gathered, length_zeroed, not_here}
 use Rattle.react_kernel.proofs.Inserted.{no_total}
 
 abbrev pub InRange : ℕ → FieldBuf → Type 0

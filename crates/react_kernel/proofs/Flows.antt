@@ -1,10 +1,8 @@
 -- Flows by field in the course of the reactions of a cell.
 use Rattle.std.proofs.Common.{◌≡◌, ◌∙◌, sym, ap, subst, refl, ℕ, ◌+◌, ◌*◌, ◌<◌, ◌≤◌, ◌^◌, List, length, take, replicate, slice_index, slice_index_or, sum, arith}
 use Rattle.std.specs.Prelude.{All}
-use Rattle.std.specs.List.{enumerate_from}
-use Rattle.std.proofs.lemmas.List.{ext_get_or, get_or_default, get_or-map, length-map, length-take, take_all}
+use Rattle.std.proofs.lemmas.List.{ext_get_or, get_or_default, length-take, take_all}
 use Rattle.std.proofs.lemmas.List.Sums.{fold_more}
-use Rattle.std.proofs.lemmas.List.FromFn.{length-enumerate_from, get_or-enumerate_from}
 use Rattle.std.proofs.lemmas.List.Elements.{All-from_get_or, All-get_or, All-take}
 use Rattle.package_fields.specs.declared.flow.Flow.{Flow}
 use Rattle.package_fields.specs.Flow.{IsBelow, no_flow}

@@ -1,5 +1,5 @@
 -- A buffer of zeros put among buffers by its field.
-use Rattle.std.proofs.Common.{◌≡◌, ◌≢◌, ◌⊎◌, ◌∙◌, sym, ap, subst, refl, inl, inr, ℕ, zero, suc, ◌+◌, ◌<◌, ◌≤◌, Bool, true, false, ◌||◌, cond, nat_eq, nat_lt, List, [], ◌∷◌, ◌++◌, length, replicate, slice_index, arith}
+use Rattle.std.proofs.Common.{◌≡◌, ◌≢◌, ◌∙◌, sym, ap, subst, refl, inl, inr, ℕ, zero, suc, ◌+◌, ◌<◌, ◌≤◌, Bool, true, false, ◌||◌, nat_eq, nat_lt, List, [], ◌∷◌, length, replicate, slice_index, arith}
 use Rattle.std.specs.Prelude.{All}
 use Rattle.std.specs.List.{insert}
 use Rattle.std.proofs.lemmas.Bool.{cases_eq, eq-eqb, false≢true, cases_lt, lt-ltb, le-ltb, cond-true, cond-false}
@@ -9,10 +9,10 @@ use Rattle.block_layout.specs.declared.layout.Layout.{Layout}
 use Rattle.field_bufs.specs.declared.buf.FieldBuf.{FieldBuf}
 use Rattle.block_layout.specs.Faces.{face_count}
 use Rattle.block_layout.specs.Layouts.{len}
-use Rattle.field_bufs.specs.Buffers.{cells_of, total_at, zeros}
+use Rattle.field_bufs.specs.Buffers.{total_at, zeros}
 use Rattle.react_kernel.specs.Blocks.{Rise, has_field}
 use Rattle.react_kernel.specs.BlockSteps.{AreFresh, HasRoom, HasRoomFor, IsFresh, lower}
-use Rattle.react_kernel.proofs.Buffers.{absent_cells, cells_here, cells_not_here, here, not_here, rise_less}
+use Rattle.react_kernel.proofs.Buffers.{absent_cells, cells_here, cells_not_here, here, not_here}
 
 -- a field stands after so many buffers, and before the others
 abbrev Splits : ℕ → List FieldBuf → ℕ → Type 0

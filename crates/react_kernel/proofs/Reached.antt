@@ -1,6 +1,5 @@
 -- A block whose interior cells are changed one by one.
-use Rattle.std.proofs.Common.{◌≡◌, ◌≢◌, ◌⊎◌, ◌∙◌, sym, ap, subst, refl, inl, inr, ℕ, zero, suc, ◌+◌, ◌<◌, ◌≤◌, ◌^◌, Bool, true, false, cond, nat_eq, List, [], ◌∷◌, ◌++◌, length, map, replicate, slice_index, slice_index_or, sum, arith}
-use Rattle.std.specs.Prelude.{All}
+use Rattle.std.proofs.Common.{◌≡◌, ◌∙◌, sym, ap, subst, refl, inl, inr, ℕ, zero, suc, ◌+◌, ◌<◌, ◌^◌, true, nat_eq, List, [], ◌++◌, length, replicate, slice_index, slice_index_or, sum, arith}
 use Rattle.std.proofs.lemmas.Bool.{cases_eq, false≢true, cond-true, cond-false, eq-eqb, ne_eqb}
 use Rattle.std.proofs.lemmas.List.{append-nil, ext_get_or, get_or_past}
 use Rattle.std.proofs.lemmas.List.Folds.{list_any_at}
@@ -13,15 +12,13 @@ use Rattle.block_layout.specs.Sizes.{IsLayout}
 use Rattle.block_layout.specs.Layouts.{interior_len}
 use Rattle.field_bufs.specs.declared.buf.FieldBuf.{FieldBuf}
 use Rattle.field_bufs.specs.Buffers.{HasSizes, total_at}
-use Rattle.mesh_rules.specs.Sums.{sum_to}
-use Rattle.react_kernel.specs.Blocks.{AreOf, HasGained, HasReacted, IsNew, has_field, inner_place, reacted_at, totals_at, without_cells}
+use Rattle.react_kernel.specs.Blocks.{AreOf, HasGained, HasReacted, IsNew, has_field, inner_place, reacted_at, totals_at}
 use Rattle.react_kernel.specs.BlockSteps.{AreFresh, CellStep, IsFresh, Reached}
-use Rattle.react_kernel.proofs.Buffers.{absent_total, has_same}
+use Rattle.react_kernel.proofs.Buffers.{has_same}
 use Rattle.react_kernel.proofs.Cells.{at_totals, length_totals}
 use Rattle.react_kernel.proofs.Gains.{gained_more, gained_none, no_parts, sum_none}
 use Rattle.react_kernel.proofs.Inserted.{no_total}
 use Rattle.react_kernel.proofs.Rows.{inner_same}
-use Rattle.react_kernel.proofs.CellSteps.{all_zero}
 
 pub reached_none : (react : List ℕ → Reacted) (l : Layout) (block stamp : ℕ) (old : List FieldBuf) (flows : List Flow) → AreOf l block (length flows) old → Reached react l block stamp old flows 0 old [] flows
 reached_none react l block stamp old flows are = record {

@@ -1,8 +1,8 @@
 -- Where the interior cells of a block lie, row by row.
-use Rattle.std.proofs.Common.{◌≡◌, ◌≢◌, ◌∙◌, sym, ap, subst, refl, ℕ, zero, suc, ◌+◌, ◌*◌, ◌/◌, ◌%◌, ◌<◌, ◌≤◌, Bool, true, false, cond, nat_lt, List, [], ◌∷◌, slice_index, arith}
+use Rattle.std.proofs.Common.{◌≡◌, ◌∙◌, sym, ap, ℕ, ◌+◌, ◌*◌, ◌/◌, ◌%◌, ◌<◌, ◌≤◌, Bool, true, false, cond, nat_lt, [], ◌∷◌, slice_index, arith}
 use Rattle.block_layout.specs.declared.layout.Layout.{Layout}
 use Rattle.block_layout.specs.Sizes.{IsLayout}
-use Rattle.block_layout.specs.Indices.{count_of, index_of, number_of}
+use Rattle.block_layout.specs.Indices.{index_of, number_of}
 use Rattle.block_layout.specs.Layouts.{ghost_layers, interior_len, len, place, width, widths}
 use Rattle.block_layout.specs.Regions.{cell_index, interior}
 use Rattle.block_layout.proofs.Boxes.{first_digit, index_number, number_bound, number_index, other_digits, row_below}

@@ -1,5 +1,5 @@
 -- A kernel in one cell of a block. This serves the private contracts of the crate.
-use Rattle.std.specs.Prelude.{◌≡◌, ◌≢◌, ◌⊎◌, ℕ, suc, ◌+◌, ◌<◌, ◌≤◌, Bool, true, false, ◌||◌, cond, List, [], ◌∷◌, ◌++◌, length, map, nat_eq, nat_lt, replicate, slice_index, slice_set, All}
+use Rattle.std.specs.Prelude.{◌≡◌, ◌≢◌, ◌⊎◌, ℕ, suc, ◌+◌, ◌<◌, true, false, ◌||◌, cond, List, [], ◌∷◌, ◌++◌, length, map, nat_eq, nat_lt, replicate, slice_index, slice_set, All}
 use Rattle.package_fields.specs.declared.flow.Flow.{Flow}
 use Rattle.package_fields.specs.Kernel.{Reacted}
 use Rattle.block_layout.specs.declared.layout.Layout.{Layout}

@@ -1,4 +1,4 @@
-use Rattle.std.proofs.Common.{◌≡◌, ◌∙◌, sym, ap, subst, ℕ, ◌+◌, ◌*◌, ◌<◌, ◌≤◌, ◌++◌, length, replicate, slice_index, List, arith}
+use Rattle.std.proofs.Common.{◌≡◌, ◌∙◌, ap, subst, ℕ, ◌+◌, ◌*◌, ◌<◌, replicate, slice_index, arith}
 use Rattle.package_fields.specs.Kernel.{KernelLaws}
 use Rattle.block_layout.specs.Layouts.{interior_len}
 use Rattle.react_kernel.specs.Blocks.{inner_place}

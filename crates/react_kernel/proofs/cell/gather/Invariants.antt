@@ -1,4 +1,4 @@
-use Rattle.std.proofs.Common.{◌≡◌, ◌+◌, drop, length}
+use Rattle.std.proofs.Common.{◌≡◌, ◌+◌, drop}
 use Rattle.react_kernel.specs.BlockSteps.{gathered, sum_there}
 use Rattle.react_kernel.proofs.cell.gather.Given as goal
 

@@ -1,7 +1,7 @@
-use Rattle.std.proofs.Common.{◌≡◌, ◌∙◌, sym, ap, subst, refl, ℕ, ◌+◌, ◌++◌, length, List, sum, arith}
+use Rattle.std.proofs.Common.{◌≡◌, ◌∙◌, ap, ℕ, ◌++◌, length, List, sum, arith}
 use Rattle.react_kernel.specs.Blocks.{totals_at}
-use Rattle.react_kernel.specs.BlockSteps.{gathered, sum_there}
-use Rattle.react_kernel.proofs.Cells.{IsGathered, all_gathered, apart_fresh, in_range_fresh, in_range_of}
+use Rattle.react_kernel.specs.BlockSteps.{gathered}
+use Rattle.react_kernel.proofs.Cells.{all_gathered, apart_fresh, in_range_fresh, in_range_of}
 use Rattle.react_kernel.proofs.cell.gather_all.Goals as goal
 
 pub gather-low-requires-clause-small : goal.gather-low-requires-clause-small

@@ -1,6 +1,5 @@
-use Rattle.std.proofs.Common.{◌≡◌, ◌∙◌, sym, ap, subst, ℕ, ◌++◌, length, List, arith}
-use Rattle.field_bufs.specs.declared.buf.FieldBuf.{FieldBuf}
-use Rattle.package_fields.specs.Kernel.{KernelLaws, Reacted}
+use Rattle.std.proofs.Common.{◌≡◌, ◌∙◌, sym, ap, subst, ℕ, ◌++◌, length, List}
+use Rattle.package_fields.specs.Kernel.{KernelLaws}
 use Rattle.react_kernel.specs.Blocks.{totals_at}
 use Rattle.react_kernel.proofs.Cells.{length_totals}
 use Rattle.react_kernel.proofs.CellSteps.{blank, changed, gathered_is}

@@ -1,4 +1,4 @@
-use Rattle.std.proofs.Common.{◌∙◌, ap, length, map, drop, List, ℕ, arith}
+use Rattle.std.proofs.Common.{◌∙◌, ap, length, map, drop, List, arith}
 use Rattle.std.proofs.lemmas.List.{take_at, length-map}
 use Rattle.field_bufs.specs.declared.buf.FieldBuf.{FieldBuf}
 use Rattle.react_kernel.specs.BlockSteps.{with_total}

@@ -1,6 +1,6 @@
-use Rattle.std.proofs.Common.{◌≡◌, ◌∙◌, sym, ap, subst, refl, inl, ℕ, ◌+◌, ◌<◌, ◌^◌, length, List, sum, arith}
+use Rattle.std.proofs.Common.{◌≡◌, ap, refl, inl, ◌+◌, length, List, sum, arith}
 use Rattle.field_bufs.specs.declared.buf.FieldBuf.{FieldBuf}
-use Rattle.react_kernel.specs.BlockSteps.{held_sum, zeroed}
+use Rattle.react_kernel.specs.BlockSteps.{held_sum}
 use Rattle.react_kernel.proofs.Cells.{apart_fresh, held_both, in_range_fresh, in_range_of, none_missing}
 use Rattle.react_kernel.proofs.fresh.add_missing.Goals as goal
 

@@ -1,4 +1,4 @@
-use Rattle.std.proofs.Common.{◌≡◌, length}
+use Rattle.std.proofs.Common.{length}
 use Rattle.react_kernel.specs.BlockSteps.{AreFresh, HasRoom}
 use Rattle.react_kernel.proofs.fresh.make_room.Given as goal
 

@@ -1,8 +1,4 @@
-use Rattle.std.proofs.Common.{◌≡◌, ◌<◌, ◌∙◌, sym, ap, subst, refl, ℕ, length, slice_index, List, arith}
-use Rattle.block_layout.specs.Faces.{face_count}
-use Rattle.block_layout.specs.Layouts.{len}
-use Rattle.field_bufs.specs.declared.buf.FieldBuf.{FieldBuf}
-use Rattle.react_kernel.specs.Blocks.{has_field}
+use Rattle.std.proofs.Common.{◌∙◌, sym, length}
 use Rattle.react_kernel.proofs.Inserted.{made_room}
 use Rattle.react_kernel.proofs.fresh.make_room_for.Goals as goal
 
