@@ -22,12 +22,13 @@ use Rattle.block_geometry.proofs.Rows.{within_with}
 use Rattle.block_geometry.proofs.Seen.{three_axes}
 use Rattle.ghost_laws.specs.Layers.{across_index, on_block}
 use Rattle.ghost_laws.specs.Refined.{LiesInChild, finer_index}
-use Rattle.ghost_laws.specs.Seen.{IsBeside}
+use Rattle.ghost_laws.specs.Given.{IsBeside}
 use Rattle.ghost_laws.proofs.Ghosts.{in_layout}
 use Rattle.ghost_laws.proofs.Layers.{first_across, sizes, within_across}
+use Rattle.ghost_laws.proofs.Meeting.{not_inner, sender_crosses}
 use Rattle.ghost_laws.proofs.Refined.{child_cell, finer_within}
 use Rattle.flux_laws.specs.Corrected.{CoarsePairs}
-use Rattle.flux_laws.proofs.Meeting.{finer_at_side, sender_meets}
+use Rattle.flux_laws.proofs.AtSide.{finer_at_side}
 
 -- a face's own pair, where a cell that is not finer lies across
 pub own_there : (b : FieldBlock) (c : Loc) (axis : ℕ) (high : Bool) (o : Loc) → cell_across b.mesh c axis high ≡ Some o → is_inner b.mesh (block_of b.mesh o) ≡ false →
@@ -81,11 +82,13 @@ has_finer b axis high o j i right left k s side =
     let from : Loc = child d o j in
     let fit = sizes b s.beside.sound in
     let w = finer_within m q k fit in
-    let (x, crosses, outer) = sender_meets b axis high o j i s.beside s.meets s.sound s.lies in
+    let met = sender_crosses b axis high o j i 0 s.beside (omega arith) s.meets s.sound.leaf.inside s.lies in
+    let x : Loc = met.x in
+    let outer = not_inner b axis high o j s.beside.sound met in
     let far : List ℕ = with_along axis (end_of (cells_along m axis) (not (not high))) r in
     let there : cell_across m (cell_in m from r) axis (not high) ≡ Some (cell_in m x far) =
     across_beyond m from r axis (not high) s.beside.sound.mesh s.sound.leaf.inside h (finer_at_side b axis high i k s.beside side)
-    ∙ ap (option_map (λ v. cell_in m v far)) crosses in
+    ∙ ap (option_map (λ v. cell_in m v far)) met.crosses in
     let some = s.beside.sound.mesh.some_cells axis h in
     let block : block_of m (cell_in m x far) ≡ x = block_of_cell_in m x far (within_with m.cells r axis (end_of (cells_along m axis) (not (not high))) w h (end_below (cells_along m axis) (not (not high)) some)) in
     let coarse : is_inner m (block_of m (cell_in m x far)) ≡ false = ap (is_inner m) block ∙ outer in

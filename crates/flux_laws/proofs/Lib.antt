@@ -1,2 +1,3 @@
-pub mod Meeting
+pub mod AtSide
 pub mod Corrected
+pub mod AllPairs

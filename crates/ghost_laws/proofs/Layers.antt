@@ -17,7 +17,8 @@ use Rattle.block_geometry.proofs.Cells.{across_beyond, across_down, across_up}
 use Rattle.block_geometry.proofs.Rows.{along_with, within_with}
 use Rattle.block_geometry.proofs.Seen.{in_mesh, same_cells, three_axes}
 use Rattle.ghost_laws.specs.Layers.{across_index, layer_along, seen_in_layer}
-use Rattle.ghost_laws.specs.Seen.{IsBeside, OutsideSeen}
+use Rattle.ghost_laws.specs.Given.{IsBeside}
+use Rattle.ghost_laws.specs.Seen.{OutsideSeen}
 
 -- the sizes of the mesh's blocks
 pub sizes : (b : FieldBlock) → IsFieldBlock b → IsLayout b.mesh.shape.dims b.mesh.cells

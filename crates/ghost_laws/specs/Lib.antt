@@ -1,3 +1,4 @@
 pub mod Layers
 pub mod Refined
+pub mod Given
 pub mod Seen

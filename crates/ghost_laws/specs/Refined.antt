@@ -37,6 +37,10 @@ coarser_index m j i = coarser_along m j i 0 ∷ coarser_along m j i 1 ∷ coarse
 abbrev pub number_in_coarser : ℕ → List ℕ → ℕ
 number_in_coarser dims i = slice_index i 0 % factor dims 0 + 2 * (slice_index i 1 % factor dims 1) + 4 * (slice_index i 2 % factor dims 2)
 
+-- the number of the child of its block that a cell lies in
+abbrev pub child_at : Mesh → List ℕ → ℕ
+child_at m i = slice_index i 0 / half_cells m 0 + 2 * (slice_index i 1 / half_cells m 1) + 4 * (slice_index i 2 / half_cells m 2)
+
 -- these numbers, computed
 pub record WorkedIndices : Type 0 where
   pub finer : (m : Mesh) → m.shape.dims ≡ 2 → m.cells ≡ 4 ∷ 4 ∷ 1 ∷ [] → map (finer_index m (3 ∷ 1 ∷ 0 ∷ [])) (0 ∷ 1 ∷ 2 ∷ 3 ∷ []) ≡ (2 ∷ 2 ∷ 0 ∷ []) ∷ (3 ∷ 2 ∷ 0 ∷ []) ∷ (2 ∷ 3 ∷ 0 ∷ []) ∷ (3 ∷ 3 ∷ 0 ∷ []) ∷ []

@@ -1,5 +1,6 @@
 //! Laws of the ghost layers.
 
+ghost use Rattle.ghost_laws.specs.Given.{FilledSees};
 ghost use Rattle.ghost_laws.specs.Refined.{WorkedIndices};
 ghost use Rattle.ghost_laws.specs.Seen.{CoarserSeen, FinerSeen, OutsideSeen, SameSeen};
 
@@ -10,6 +11,12 @@ pub fn ghost_look_laws()
     ensures same { SameSeen }
     ensures finer { FinerSeen }
     ensures coarser { CoarserSeen }
+{}
+
+/// A block whose ghosts have what the lists of the leaves behind its sides give, of any level, sees the mesh around: both
+/// layers at each side are the look on the block's own level, or what stands outside.
+pub fn filled_law()
+    ensures { FilledSees }
 {}
 
 /// Indices of finer and of coarser cells, with the numbers written out.

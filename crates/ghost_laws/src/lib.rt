@@ -6,4 +6,4 @@
 
 mod laws;
 
-pub use laws::{ghost_look_laws, worked_indices};
+pub use laws::{filled_law, ghost_look_laws, worked_indices};

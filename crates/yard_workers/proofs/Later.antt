@@ -1,5 +1,5 @@
 -- What a worker knows stays so: of its seat after a turn, of its notes, and of the lease that it got.
-use Rattle.std.proofs.Common.{◌≡◌, ℕ, List, [], ◌∷◌, ◌++◌, length, drop, sym, refl, ap, ◌∙◌, subst, Bool, true, false, Option, Some, None, length-set, slice_set}
+use Rattle.std.proofs.Common.{◌≡◌, ℕ, List, [], ◌++◌, length, drop, sym, refl, ap, ◌∙◌, subst, true, false, Option, Some, None, length-set, slice_set}
 use Rattle.std.proofs.lemmas.List.{append-nil, append_assoc, drop_at}
 use Rattle.std.proofs.lemmas.List.Elements.{filter-append}
 use Rattle.turn_yard.specs.History.{Entry, bears, entries_of, StartsWith, added_to, AddsAtMostOne, NoneFalls, OnlyRises}

@@ -1,6 +1,6 @@
 -- What a machine asks of its workers, and tells them: of histories, leases and notes.
 use Rattle.std.specs.Prelude.{◌≡◌, ℕ, ◌<◌, List, [], ◌++◌, Option, Some, None}
-use Rattle.turn_yard.specs.History.{Entry, entries_of, OnlyRises, StartsWith}
+use Rattle.turn_yard.specs.History.{Entry, entries_of, StartsWith}
 use Rattle.yard_workers.specs.declared.machine.Answer.{Answer}
 use Rattle.yard_workers.specs.declared.machine.Answer.TheVariants.{Lease, Delivered, NotYet, Done, NoMemory}
 

@@ -1,5 +1,5 @@
 -- What contracts see of workers: their seats between turns, and how they end.
-use Rattle.std.specs.Prelude.{◌≡◌, ℕ, ◌<◌, Bool, true, false, List, [], ◌++◌, length, Option, Some, None, IfSome, IsSome}
+use Rattle.std.specs.Prelude.{◌≡◌, ℕ, ◌<◌, true, false, List, length, Option, IfSome, IsSome}
 use Rattle.turn_yard.specs.History.{Entry, entries_of, StartsWith}
 use Rattle.turn_yard.specs.Seat.{SeatState}
 use Rattle.turn_yard.specs.Yard.{YardState}

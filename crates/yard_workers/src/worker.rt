@@ -108,7 +108,8 @@ pub fn work_all<R: Threads + Wait + Sync, M: Machine + Send, G: Gate + Sync>(
     requires seats { All (λ w. IsBetweenTurns yard.now w.seat) workers.old }
     requires parts { yard.now.parts ≡ M.parts yard.now.origin }
     requires setting { M.suits setting.now yard.now.origin }
-    ensures { (i : ℕ) (d : _) → i < length workers.old → HasWorked (M.complete yard.now.origin) yard.now (slice_index_or workers.old i d).seat (slice_index_or workers.new i d).seat (slice_index_or workers.new i d).end }
+    ensures count { length workers.new ≡ length workers.old }
+    ensures each { (i : ℕ) (d : _) → i < length workers.old → HasWorked (M.complete yard.now.origin) yard.now (slice_index_or workers.old i d).seat (slice_index_or workers.new i d).seat (slice_index_or workers.new i d).end }
 {
     let threads = workers.len();
     thread::for_each_mut(

@@ -1,4 +1,4 @@
-use Rattle.std.proofs.Common.{◌≡◌, List, sym, ap, ◌∙◌, subst, refl, ℕ, Option, Some, None}
+use Rattle.std.proofs.Common.{List, sym, ap, ◌∙◌, subst, ℕ, Some, None}
 use Rattle.turn_yard.specs.Seat.{SeatState}
 use Rattle.yard_workers.specs.Machine.{Was}
 use Rattle.yard_workers.proofs.Later.{after_turn, was_later, was_now}

@@ -1,4 +1,4 @@
-use Rattle.std.proofs.Common.{◌≡◌, sym, ap, ◌∙◌, Some}
+use Rattle.std.proofs.Common.{sym, ap, ◌∙◌, Some}
 use Rattle.turn_yard.specs.Seat.{SeatState}
 use Rattle.yard_workers.proofs.Later.{after_turn, returned_later}
 use Rattle.yard_workers.proofs.turn.give.Goals as goal

@@ -1,4 +1,4 @@
-use Rattle.std.proofs.Common.{◌≡◌, List, ℕ, IfSome, sym, ap, ◌∙◌, subst}
+use Rattle.std.proofs.Common.{List, IfSome, sym, ap, subst}
 use Rattle.turn_yard.specs.History.{Entry}
 use Rattle.turn_yard.specs.Seat.{SeatState}
 use Rattle.yard_workers.specs.Worker.{Ended}

@@ -1,5 +1,5 @@
-use Rattle.std.proofs.Common.{ℕ, slice_index_or, subst}
-use denote.Param.Send.{IsSync, sendable}
+use Rattle.std.proofs.Common.{slice_index_or, subst}
+use denote.Param.Send.{sendable}
 use Rattle.turn_yard.proofs.Sharing.{yard_sync}
 use Rattle.yard_workers.specs.Worker.{HasWorked}
 use Rattle.yard_workers.proofs.shared.Shared.TheSendSync as shared
@@ -13,8 +13,8 @@ for_each_mut-requires-sync-F g c κs within =
     let gate = c.type_bounds.sync-G in
     search (sendable, yard_sync, shared.the_send) depth 30
 
-pub returns : goal.returns
-returns g c i d below =
+pub returns-clause-each : goal.returns-clause-each
+returns-clause-each g c i d below =
     let called = (c.for_each_mut.ensures i d below).1 in
     let complete = g.M.Machine.complete c.args.yard.now.origin in
     let after = slice_index_or c.for_each_mut.new.s i d in
