@@ -12,6 +12,8 @@
 mod machine;
 mod run;
 mod shared;
+#[cfg(test)]
+mod tests;
 mod turn;
 mod worker;
 
