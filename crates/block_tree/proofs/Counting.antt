@@ -1,6 +1,6 @@
 -- How many leaves and inner nodes a tree has.
-use Rattle.std.proofs.Common.{◌≡◌, ◌⊎◌, inl, inr, ℕ, zero, suc, ◌+◌, ◌-◌, ◌*◌, ◌<◌, ◌≤◌, Bool, true, false, cond, ◌||◌, List, [], ◌∷◌, ◌++◌, length, refl, arith, ap, subst, sym, ◌∙◌, length-append}
-use Rattle.std.specs.List.{AllByRecursion, IsDistinct, flat_map, list_any, range_with_len}
+use Rattle.std.proofs.Common.{◌≡◌, inl, inr, ℕ, zero, suc, ◌+◌, ◌-◌, ◌*◌, ◌≤◌, Bool, true, false, cond, ◌||◌, List, [], ◌∷◌, ◌++◌, length, refl, arith, ap, subst, sym, ◌∙◌, length-append}
+use Rattle.std.specs.List.{AllByRecursion, IsDistinct, flat_map, range_with_len}
 use Rattle.std.proofs.lemmas.Bool.{false≢true}
 use Rattle.morton_order.specs.declared.space.Loc.{Loc}
 use Rattle.morton_order.specs.declared.space.Shape.{Shape}
@@ -8,7 +8,7 @@ use Rattle.morton_order.specs.Space.{IsShape, child, parts, same_loc}
 use Rattle.morton_order.proofs.Any.{or_cases, or_left, or_right}
 use Rattle.morton_order.proofs.Touching.{same_loc-is, same_loc-self}
 use Rattle.block_tree.specs.Tree.{is_listed}
-use Rattle.block_tree.specs.Leaves.{inner_below, inner_of, leaves_below, leaves_of, pieces, roots, roots_in}
+use Rattle.block_tree.specs.Leaves.{inner_below, inner_of, leaves_below, leaves_of, pieces, roots}
 
 -- each inner node has its children in place of a leaf
 abbrev Count : ℕ → List Loc → List Loc → Type 0

@@ -1,17 +1,16 @@
 -- The listed inner nodes of a tree are its inner nodes.
-use Rattle.std.proofs.Common.{◌≡◌, inl, inr, ℕ, zero, suc, ◌+◌, ◌<◌, ◌≤◌, Bool, true, false, cond, List, [], ◌∷◌, ◌++◌, refl, arith, ap, subst, sym, ◌∙◌}
+use Rattle.std.proofs.Common.{◌≡◌, ℕ, zero, suc, ◌+◌, ◌≤◌, Bool, true, false, cond, List, [], ◌∷◌, ◌++◌, refl, arith, ap, sym, ◌∙◌}
 use Rattle.std.specs.List.{flat_map, range_with_len}
-use Rattle.std.proofs.lemmas.Bool.{false≢true}
 use Rattle.morton_order.specs.declared.space.Loc.{Loc}
 use Rattle.morton_order.specs.declared.space.Shape.{Shape}
-use Rattle.morton_order.specs.Space.{IsIn, IsShape, child, child_number, parent, parts, same_loc}
+use Rattle.morton_order.specs.Space.{IsShape, child, child_number, parent, parts, same_loc}
 use Rattle.morton_order.proofs.Any.{or_left}
 use Rattle.morton_order.proofs.Family.{child-parent, child_number_below}
 use Rattle.morton_order.proofs.Touching.{same_loc-self}
 use Rattle.block_tree.specs.Tree.{IsTree, ancestor, is_listed}
-use Rattle.block_tree.specs.Leaves.{InnersAreListed, inner_below, inner_of, pieces, roots, roots_in}
-use Rattle.block_tree.proofs.Ancestors.{ancestor_inner, ancestor_inside, ancestor_level, ancestor_more}
-use Rattle.block_tree.proofs.KeyOrder.{any_append_left, any_append_right, any_flat, any_listed, root_of}
+use Rattle.block_tree.specs.Leaves.{InnersAreListed, inner_below, inner_of, pieces, roots}
+use Rattle.block_tree.proofs.Ancestors.{ancestor_inner, ancestor_level, ancestor_more}
+use Rattle.block_tree.proofs.KeyOrder.{any_append_right, any_flat, any_listed, root_of}
 use Rattle.block_tree.proofs.LeafList.{Each, each_append, each_flat, each_listed, each_number}
 
 -- what is listed is inner

@@ -38,9 +38,9 @@ each_listed P l (x ∷ xs) h k = elim (or_cases (same_loc l x) (list_any (same_l
 ]
 
 -- the roots lie in the domain
-record IsRoot (s : Shape) (l : Loc) : Type 0 where
-  inside : IsIn s l
-  root : l.level ≡ 0
+pub record IsRoot (s : Shape) (l : Loc) : Type 0 where
+  pub inside : IsIn s l
+  pub root : l.level ≡ 0
 
 at_origin : (r f x : ℕ) → x * 1 < r → x < r * f ^ 0
 at_origin r f x h = subst (λ v. x < r * v) (sym (pow-zero f)) (omega arith)
@@ -64,13 +64,13 @@ each_piece : (P : Loc → Type 0) (b : Bool) (n : ℕ) (f : ℕ → List Loc) (n
 each_piece P true n f none h k = each_flat P (λ _. Unit {0}) f (λ j _. h j refl) (range_with_len 0 n) (each_number (λ _. Unit {0}) (λ _. tt) 0 n)
 each_piece P false n f none h k = k refl
 
-each_root : (k : ℕ) (s : Shape) (x y z : ℕ) → Each (IsRoot s) (roots_in k s x y z)
+pub each_root : (k : ℕ) (s : Shape) (x y z : ℕ) → Each (IsRoot s) (roots_in k s x y z)
 each_root zero s x y z = one_root s x y z (begins_inside s 0 x y z) refl
 each_root (suc k) s x y z = each_piece (IsRoot s) (begins_inside s (suc k) x y z) 8 (λ j. roots_in k s (2 * x + j % 2) (2 * y + j / 2 % 2) (2 * z + j / 4)) [] (λ j b. each_root k s (2 * x + j % 2) (2 * y + j / 2 % 2) (2 * z + j / 4)) (λ b. tt)
 
 -- what is listed below a node are leaves
 record IsNode (s : Shape) (inner : Loc → Bool) (k : ℕ) (l : Loc) : Type 0 where
-  inside : IsIn s l
+  pub inside : IsIn s l
   node : is_node s inner l ≡ true
   level : l.level + k ≡ 10
 

@@ -13,3 +13,9 @@ pub mod Worklist
 pub mod Growing
 pub mod Counting
 pub mod InnerList
+pub mod Numbers
+pub mod Shown
+pub mod Wanted
+pub mod Filling
+pub mod Grown
+pub mod WantedNodes

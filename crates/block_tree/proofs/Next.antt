@@ -39,7 +39,7 @@ may finest s old tag tree fit l h = elim (wanted_ways s.dims old tag l h) [
 ]
 
 -- each number of a range passes
-all_pass : (p : ℕ → Bool) (a n j : ℕ) → list_all p (range_with_len a n) ≡ true → a ≤ j → j < a + n → p j ≡ true
+pub all_pass : (p : ℕ → Bool) (a n j : ℕ) → list_all p (range_with_len a n) ≡ true → a ≤ j → j < a + n → p j ≡ true
 all_pass p a zero j h low high = absurd (omega arith)
 all_pass p a (suc n) j h low high = let b = and_parts (p a) (list_all p (range_with_len (a + 1) n)) h in
     elim (cases_eq a j) [ inl e ↦ subst (λ k. p k ≡ true) e b.0 | inr d ↦ all_pass p (a + 1) n j b.1 (omega arith) (omega arith) ]
@@ -73,7 +73,7 @@ next_is_near finest s old tag next shape tree balanced fit is =
     }
 
 -- where some box asks for more than a level, that level is at most the finest
-coarse_of_boxes : (finest : ℕ) (s : Shape) (cells : List ℕ) (boxes : List StaticBox) (l : Loc) → All (λ (b : StaticBox). b.level ≤ finest + 1) boxes → list_any (λ (b : StaticBox). nat_lt l.level b.level && meets s cells b l) boxes ≡ true → l.level ≤ finest
+pub coarse_of_boxes : (finest : ℕ) (s : Shape) (cells : List ℕ) (boxes : List StaticBox) (l : Loc) → All (λ (b : StaticBox). b.level ≤ finest + 1) boxes → list_any (λ (b : StaticBox). nat_lt l.level b.level && meets s cells b l) boxes ≡ true → l.level ≤ finest
 coarse_of_boxes finest s cells [] l few h = absurd (false≢true h)
 coarse_of_boxes finest s cells (b ∷ bs) l few h = elim (or_cases (nat_lt l.level b.level && meets s cells b l) (list_any (λ (b : StaticBox). nat_lt l.level b.level && meets s cells b l) bs) h) [
   | inl here ↦ let less = ltb-true l.level b.level (and_parts (nat_lt l.level b.level) (meets s cells b l) here).0 in let most : b.level ≤ finest + 1 = few 0 b (omega arith) in omega arith

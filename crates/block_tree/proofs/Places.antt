@@ -1,10 +1,10 @@
 -- Bounds of the coordinates of a location.
-use Rattle.std.proofs.Common.{◌≡◌, ℕ, ◌+◌, ◌*◌, ◌^◌, ◌<◌, ◌≤◌, Bool, true, false, cond, nat_lt, arith, ap, subst, sym}
+use Rattle.std.proofs.Common.{◌≡◌, ℕ, ◌*◌, ◌^◌, ◌<◌, ◌≤◌, Bool, true, false, cond, nat_lt, arith, subst}
 use Rattle.std.proofs.Math.Nat.{mul-le-mul_right, one-le-pow}
 use Rattle.std.proofs.Common.{lit<}
 use Rattle.morton_order.specs.declared.space.Loc.{Loc}
 use Rattle.morton_order.specs.declared.space.Shape.{Shape}
-use Rattle.morton_order.specs.Space.{IsIn, IsLoc, IsRootCount, IsShape, axis_of, blocks_along, most_along, root_along}
+use Rattle.morton_order.specs.Space.{IsIn, IsLoc, IsShape, root_along}
 use Rattle.morton_order.proofs.Lattice.{one_pow}
 
 within_by : (used : Bool) (root level x : ℕ) → root ≤ cond used 65536 1 → x < root * cond used 2 1 ^ level → x < cond used (65536 * 2 ^ level) 1

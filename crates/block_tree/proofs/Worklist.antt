@@ -1,28 +1,28 @@
 -- The worklist finds the least balanced tree.
-use Rattle.std.proofs.Common.{◌≡◌, ◌==◌, ◌⊎◌, inl, inr, ℕ, zero, suc, ◌+◌, ◌<◌, ◌≤◌, Bool, true, false, cond, ◌||◌, nat_eq, nat_le, List, [], ◌∷◌, ◌++◌, Option, Some, None, length, refl, arith, ap, subst, sym, ◌∙◌}
-use Rattle.std.specs.List.{list_any, slice_get}
+use Rattle.std.proofs.Common.{◌≡◌, ◌⊎◌, inl, inr, ℕ, zero, suc, ◌+◌, ◌<◌, ◌≤◌, Bool, true, false, cond, nat_eq, nat_le, List, [], ◌∷◌, ◌++◌, Some, None, length, refl, arith, ap, subst, sym, ◌∙◌}
+use Rattle.std.specs.List.{slice_get}
 use Rattle.std.specs.Bool.{MatchBool}
 use Rattle.std.proofs.lemmas.Bool.{cases_eq, cases_order, eqb-true, false≢true, leb-true, le-leb}
 use Rattle.std.proofs.lemmas.Option.{slice_get_within}
 use Rattle.morton_order.specs.declared.space.Loc.{Loc}
 use Rattle.morton_order.specs.declared.space.Shape.{Shape}
 use Rattle.morton_order.specs.Space.{IsIn, IsShape, parent, same_loc}
-use Rattle.morton_order.specs.Neighbours.{AreNeighbours, neighbours}
+use Rattle.morton_order.specs.Neighbours.{AreNeighbours}
 use Rattle.morton_order.proofs.Any.{or_cases, or_left, or_right}
 use Rattle.morton_order.proofs.Family.{parent_inside}
 use Rattle.morton_order.proofs.Touching.{same_loc-is, same_loc-self, touching_self}
-use Rattle.block_tree.specs.Tree.{IsBalanced, IsTree, is_listed, is_node}
+use Rattle.block_tree.specs.Tree.{is_listed, is_node}
 use Rattle.block_tree.specs.Nodes.{with_node}
 use Rattle.block_tree.specs.Around.{with_parent, with_parents}
 use Rattle.block_tree.specs.Least.{HoldsWanted, IsLeast, around}
-use Rattle.block_tree.specs.Worklist.{AreForced, AreRoomy, IsGrown}
+use Rattle.block_tree.specs.Worklist.{AreRoomy, IsGrown}
 use Rattle.block_tree.proofs.Ancestors.{node_parent, parent_node, root_node}
 use Rattle.block_tree.proofs.Forced.{around-found, around-has}
 use Rattle.block_tree.proofs.KeyOrder.{any_append_left, any_append_right}
 
 -- one list begins with another
-record Extends (xs ys : List Loc) : Type 0 where
-  listed : (l : Loc) → is_listed xs l ≡ true → is_listed ys l ≡ true
+pub record Extends (xs ys : List Loc) : Type 0 where
+  pub listed : (l : Loc) → is_listed xs l ≡ true → is_listed ys l ≡ true
   reads : (k : ℕ) → k < length xs → slice_get ys k ≡ slice_get xs k
   longer : length xs ≤ length ys
 
@@ -45,7 +45,7 @@ length_more : (xs : List Loc) (x : Loc) → length (xs ++ x ∷ []) ≡ length x
 length_more [] x = omega arith
 length_more (y ∷ xs) x = let h = length_more xs x in omega arith
 
-with_node_by : (ls : List Loc) (l : Loc) (b : Bool) → is_listed ls l ≡ b → Extends ls (cond b ls (ls ++ l ∷ [])) × (is_listed (cond b ls (ls ++ l ∷ [])) l ≡ true)
+pub with_node_by : (ls : List Loc) (l : Loc) (b : Bool) → is_listed ls l ≡ b → Extends ls (cond b ls (ls ++ l ∷ [])) × (is_listed (cond b ls (ls ++ l ∷ [])) l ≡ true)
 with_node_by ls l true e = (extends_self ls, e)
 with_node_by ls l false e = (
   record { listed = λ m h. any_append_left (same_loc m) ls (l ∷ []) h; reads = λ k h. reads_append ls (l ∷ []) k h; longer = let e = length_more ls l in omega arith },
@@ -53,7 +53,7 @@ with_node_by ls l false e = (
 )
 
 -- what is listed then was listed before, or is the new one
-new_by : (ls : List Loc) (l m : Loc) (b : Bool) → is_listed (cond b ls (ls ++ l ∷ [])) m ≡ true → (is_listed ls m ≡ true) ⊎ (m ≡ l)
+pub new_by : (ls : List Loc) (l m : Loc) (b : Bool) → is_listed (cond b ls (ls ++ l ∷ [])) m ≡ true → (is_listed ls m ≡ true) ⊎ (m ≡ l)
 new_by ls l m true h = inl h
 new_by ls l m false h = split ls h
   where
@@ -132,7 +132,7 @@ added_parents s wanted ls done (x ∷ xs) g each =
     }
 
 -- what is read from a list is listed
-listed_read : (xs : List Loc) (k : ℕ) (l : Loc) → slice_get xs k ≡ Some l → is_listed xs l ≡ true
+pub listed_read : (xs : List Loc) (k : ℕ) (l : Loc) → slice_get xs k ≡ Some l → is_listed xs l ≡ true
 listed_read [] k l h = absurd (none_is_not l h)
   where
     none_is_not : {Z : Type 0} (z : Z) → None ≡ Some z → ⊥

@@ -1,10 +1,13 @@
 pub mod Change
 pub mod Around
 pub mod Behind
+pub mod Blocks
 pub mod Leaves
 pub mod Least
 pub mod Next
 pub mod Nodes
+pub mod Numbered
+pub mod Table
 pub mod Tree
 pub mod Worked
 pub mod Worklist

@@ -1,6 +1,6 @@
 //! The least balanced tree, by a worklist.
 
-ghost use Rattle.std.specs.Prelude.{◌≡◌, ◌<◌, IfOk, length, All};
+ghost use Rattle.std.specs.Prelude.{◌≡◌, ◌<◌, ◌^◌, IfOk, length, All};
 ghost use Rattle.std.specs.Bool.{MatchBool};
 ghost use Rattle.std.specs.List.{IsDistinct};
 ghost use Rattle.morton_order.specs.Space.{IsIn, IsShape, same_loc};
@@ -63,6 +63,7 @@ pub(crate) fn balance(
     ensures whole { IfOk result (λ whole. MatchBool whole (IsLeast shape.now (is_listed nodes.old) (is_listed nodes.new)) (most < length nodes.new)) }
     ensures forced { IfOk result (λ _. AreForced shape.now (is_listed nodes.old) nodes.new) }
     ensures distinct { IfOk result (λ _. IsDistinct same_loc nodes.new) }
+    ensures small { IfOk result (λ _. length nodes.new < 2 ^ 63) }
 {
     for done in 0..most {
         let Some(at) = nodes.get(done) else {

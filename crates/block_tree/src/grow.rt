@@ -1,16 +1,16 @@
 //! The roots, inner nodes and leaves of a tree, listed in their order.
 
-ghost use Rattle.std.specs.Prelude.{◌≡◌, ◌+◌, ◌-◌, ◌*◌, ◌^◌, ◌<◌, ◌≤◌, ◌++◌, IfOk, length, All};
+ghost use Rattle.std.specs.Prelude.{◌≡◌, ◌+◌, ◌-◌, ◌*◌, ◌/◌, ◌^◌, ◌<◌, ◌≤◌, ◌++◌, IfOk, IfSome, IfNone, length, All};
 ghost use Rattle.std.specs.Bool.{MatchBool};
 ghost use Rattle.std.specs.List.{flat_map};
-ghost use Rattle.morton_order.specs.Space.{IsLoc, parts as parts_of};
+ghost use Rattle.morton_order.specs.Space.{IsLoc, IsShape, parts as parts_of};
 ghost use Rattle.block_tree.specs.Tree.{is_listed};
-ghost use Rattle.block_tree.specs.Leaves.{inner_below as inner_below_of, leaves_below as leaves_below_of, roots_in as roots_in_of};
+ghost use Rattle.block_tree.specs.Leaves.{inner_below as inner_below_of, leaves_below as leaves_below_of, leaves_of, roots as roots_of, roots_in as roots_in_of};
 ghost use Rattle.block_tree.specs.Leaves.{begins_inside as begins_inside_of};
 
 use crate::nodes::Nodes;
 use morton_order::{Loc, Shape, child};
-use std::alloc::AllocError;
+use std::alloc::{AllocError, Global};
 
 /// The greatest number of leaves of a tree.
 pub(crate) const MOST_LEAVES: usize = 65536;
@@ -111,4 +111,56 @@ pub(crate) fn push_below(
         push_below(nodes, dims, k - 1, &part, inner, leaves)?;
     }
     Ok(())
+}
+
+/// The root blocks in the order of their keys, of a lattice with at most as many as a tree has leaves.
+pub(crate) fn list_roots(alloc: Global, shape: &Shape) -> Result<Vec<Loc>, AllocError>
+    requires { length (roots_of shape.now) ≤ 65536 }
+    ensures { IfOk result (λ list. list.items ≡ roots_of shape.now) }
+{
+    let mut list = Vec::new(alloc);
+    push_roots(shape, 16, 0, 0, 0, &mut list)?;
+    Ok(list)
+}
+
+/// The leaves of a tree in the order of their keys. `nodes` are its inner nodes.
+pub(crate) fn list_leaves(
+    alloc: Global,
+    shape: &Shape,
+    roots: &[Loc],
+    nodes: &Nodes,
+) -> Result<Vec<Loc>, AllocError>
+    requires shape { IsShape shape.now }
+    requires roots { roots.now ≡ roots_of shape.now }
+    ensures { IfOk result (λ leaves. leaves.items ≡ leaves_of shape.now (is_listed nodes.now)) }
+{
+    let mut inner = Vec::new(alloc);
+    let mut leaves = Vec::with_capacity(alloc, roots.len())?;
+    for i in 0..roots.len() {
+        push_below(nodes, shape.dims, 10, &roots[i], &mut inner, &mut leaves)?;
+    }
+    Ok(leaves)
+}
+
+/// How many inner nodes a tree with so many roots may have: each adds its children but one to the leaves.
+pub(crate) fn most_inner(roots: usize, dims: u32) -> usize
+    requires roots { roots ≤ 65536 }
+    requires least { 1 ≤ dims }
+    requires most { dims ≤ 3 }
+    ensures { result ≡ (65536 - roots) / (parts_of dims - 1) }
+{
+    (MOST_LEAVES - roots) / (parts(dims) - 1) as usize
+}
+
+/// The root blocks in the order of their keys, none where they are more than a tree has leaves.
+pub(crate) fn few_roots(alloc: Global, shape: &Shape) -> Result<Option<Vec<Loc>>, AllocError>
+    ensures some { IfOk result (λ found. IfSome found (λ list. (list.items ≡ roots_of shape.now) × (length list.items ≤ 65536))) }
+    ensures none { IfOk result (λ found. IfNone found (65536 < length (roots_of shape.now))) }
+{
+    let mut list = Vec::new(alloc);
+    if push_roots(shape, 16, 0, 0, 0, &mut list)? && list.len() <= MOST_LEAVES {
+        Ok(Some(list))
+    } else {
+        Ok(None)
+    }
 }

@@ -4,14 +4,22 @@
 
 mod balance;
 mod boxes;
+mod fault;
 mod grow;
 mod laws;
+mod neighbour;
 mod nodes;
+mod opening;
+mod table;
 mod tags;
+mod tree;
 
 pub use boxes::StaticBox;
+pub use fault::TreeFault;
 pub use laws::{
     behind_laws, change_law, inner_nodes_law, least_tree_law, leaves_law, next_tree_laws,
     worked_trees,
 };
+pub use neighbour::{Behind, FineLeaves};
 pub use tags::Tag;
+pub use tree::Tree;

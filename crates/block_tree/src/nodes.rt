@@ -1,10 +1,10 @@
 //! Sets of locations.
 
-ghost use Rattle.std.specs.Prelude.{◌≡◌, [], IfOk, length, slice_get};
+ghost use Rattle.std.specs.Prelude.{◌≡◌, ◌<◌, ◌^◌, [], IfOk, length, slice_get};
 ghost use Rattle.std.specs.List.{IsDistinct};
 ghost use Rattle.morton_order.specs.Space.{same_loc};
 ghost use Rattle.block_tree.specs.Tree.{is_listed};
-ghost use Rattle.block_tree.specs.Nodes.{number_in, with_node};
+ghost use Rattle.block_tree.specs.Nodes.{number_in, with_node, with_nodes};
 
 use indexmap::IndexSet;
 use morton_order::Loc;
@@ -35,9 +35,39 @@ impl Nodes {
         Ok(Nodes { places })
     }
 
+    /// A set of some locations.
+    pub(crate) fn from_slice(alloc: Global, places: &[Loc]) -> Result<Nodes, AllocError>
+        ensures { IfOk result (λ nodes. nodes ≡ with_nodes [] places.now) }
+    {
+        let mut nodes = Nodes::with_capacity(alloc, places.len())?;
+        nodes.insert_all(places)?;
+        Ok(nodes)
+    }
+
+    /// The same set once more.
+    pub(crate) fn copy(&self, alloc: Global) -> Result<Nodes, AllocError>
+        ensures { IfOk result (λ nodes. nodes ≡ self.now) }
+    {
+        if self.len() == 0 {
+            return Nodes::with_capacity(alloc, 0);
+        }
+        Nodes::from_slice(alloc, self.places.as_slice())
+    }
+
+    /// Puts some locations into the set, one after another.
+    pub(crate) fn insert_all(&mut self, places: &[Loc]) -> Result<(), AllocError>
+        ensures { IfOk result (λ _. self.new ≡ with_nodes self.old places.now) }
+    {
+        for i in 0..places.len() {
+            self.insert(places[i])?;
+        }
+        Ok(())
+    }
+
     /// How many locations the set has.
     pub(crate) fn len(&self) -> usize
         ensures count { result ≡ length self.now }
+        ensures small { result < 2 ^ 63 }
         ensures distinct { IsDistinct same_loc self.now }
     {
         self.places.len()

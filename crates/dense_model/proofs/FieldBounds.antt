@@ -144,7 +144,7 @@ left_rate_is p f = ap (λ (t : Transport). t.left) (transport_is p f)
 
 pub proper_at : (p : Problem) (f : ℕ) → is_built (settings_of p) ≡ true → f < length p.moves → IsProper (moving_at (settings_of p) p.shape f)
 proper_at p f built inside = record {
-  positive = subst (λ (t : Transport). 1 ≤ t.denominator) (sym (transport_is p f)) p.stepping_sound.pace_sound.least_denominator;
+  positive = subst (λ (t : Transport). 1 ≤ t.denominator) (sym (transport_is p f)) p.stepping_sound.cycle_sound.least_denominator;
   proper = omega (arith, right_rate_is p f, left_rate_is p f, rates-le p f built inside, ap (λ (t : Transport). t.denominator) (transport_is p f));
   outside_room = subst (λ (e : Ends). AreBelow (2 ^ 62) e) (sym (ends_are p f)) (ends-lt (wraps p.shape 0) p f inside);
 }
@@ -204,7 +204,7 @@ low_comes p f built inside =
     omega (
       arith,
       same,
-      portion-le (has WithFluxes (field_no p f).flags) (edge_amount (ends_at (wraps p.shape 0) p f) false) (rate (upwards (velocity (moves_no p f) 0)) (moves_no p f).k 0) p.denominator p.stepping_sound.pace_sound.least_denominator (omega (arith, rates-le p f built inside)),
+      portion-le (has WithFluxes (field_no p f).flags) (edge_amount (ends_at (wraps p.shape 0) p f) false) (rate (upwards (velocity (moves_no p f) 0)) (moves_no p f).k 0) p.denominator p.stepping_sound.cycle_sound.least_denominator (omega (arith, rates-le p f built inside)),
       cond_mono (has WithFluxes (field_no p f).flags) _ _ (ends-le (wraps p.shape 0) p f false),
     )
 
@@ -216,7 +216,7 @@ high_comes p f built inside =
     omega (
       arith,
       same,
-      portion-le (has WithFluxes (field_no p f).flags) (edge_amount (ends_at (wraps p.shape 0) p f) true) (rate (downwards (velocity (moves_no p f) 0)) (moves_no p f).k 0) p.denominator p.stepping_sound.pace_sound.least_denominator (omega (arith, rates-le p f built inside)),
+      portion-le (has WithFluxes (field_no p f).flags) (edge_amount (ends_at (wraps p.shape 0) p f) true) (rate (downwards (velocity (moves_no p f) 0)) (moves_no p f).k 0) p.denominator p.stepping_sound.cycle_sound.least_denominator (omega (arith, rates-le p f built inside)),
       cond_mono (has WithFluxes (field_no p f).flags) _ _ (ends-le (wraps p.shape 0) p f true),
     )
 

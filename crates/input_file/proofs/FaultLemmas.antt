@@ -1,7 +1,8 @@
 -- The deck of some bytes has no fault of an override.
-use Rattle.std.proofs.Common.{◌≡◌, ℕ, ◌≤◌, ◌+◌, List, [], ◌∷◌, inl, inr, refl, ap, length, subst, arith, false, nat_lt}
-use Rattle.std.specs.Prelude.{Some, None, Result, Ok, Err}
+use Rattle.std.proofs.Common.{◌≡◌, ℕ, ◌≤◌, ◌+◌, List, [], ◌∷◌, inl, inr, refl, ap, length, subst, arith, Bool, true, false, nat_lt}
+use Rattle.std.specs.Prelude.{if◌then◌else◌, Some, None, Result, Ok, Err}
 use Rattle.std.specs.Str.{IsUtf8}
+use Rattle.std.specs.Str.Lossy.{utf8_valid_len}
 use Rattle.std.proofs.lemmas.Str.{utf8_valid_len-IsUtf8}
 use Rattle.std.proofs.lemmas.Bool.Decides.{nat_tests}
 use Rattle.input_file.specs.Texts.{Text}
@@ -10,7 +11,7 @@ use Rattle.input_file.specs.Lines.{Form, blank, header, setting, malformed, form
 use Rattle.input_file.specs.Decks.{Reading, and_then, after_form, after_lines, lines_of, deck_of_text, deck, greatest_length}
 use Rattle.input_file.specs.Answers.{Answers}
 use Rattle.input_file.specs.declared.fault.DeckFault.{DeckFault}
-use Rattle.input_file.specs.declared.fault.DeckFault.TheVariants.{BadOverride}
+use Rattle.input_file.specs.declared.fault.DeckFault.TheVariants.{NotText, TooLong, BadOverride}
 
 after_form-cases : (number : ℕ) (s : Reading) (form : Form) → (after_form number s form ≡ Err BadOverride) → ⊥
 after_form-cases number s blank h = cc
@@ -42,10 +43,18 @@ deck-text bytes short text =
     let whole : nat_lt (length bytes) (length bytes) ≡ false = grind (arith, nat_tests) in
     rw (fits, utf8_valid_len-IsUtf8 bytes text, whole) refl
 
--- no answer about a text is a fault of an override
-pub answer-cases : {T : Type 0} (view : T → Blocks) (r : Result T DeckFault) (t : Text) → Answers view r (deck_of_text t) → (r ≡ Err BadOverride) → ⊥
-answer-cases view (Ok x) t h is = cc
-answer-cases view (Err e) t (inl none) is = cc
-answer-cases {T} view (Err e) t (inr h) is =
+deck-cases : (bytes : List ℕ) → deck bytes ≡ Err BadOverride → ⊥
+deck-cases bytes h = by (nat_lt greatest_length (length bytes)) (nat_lt (utf8_valid_len bytes) (length bytes)) h
+  where
+    by : (long cut : Bool) → (if long then Err TooLong else (if cut then Err (NotText (utf8_valid_len bytes)) else deck_of_text bytes)) ≡ Err BadOverride → ⊥
+    by true cut is = cc
+    by false true is = cc
+    by false false is = deck_of_text-cases bytes is
+
+-- no answer about a deck's bytes is a fault of an override
+pub answer-cases : {T : Type 0} (view : T → Blocks) (r : Result T DeckFault) (bytes : List ℕ) → Answers view r (deck bytes) → (r ≡ Err BadOverride) → ⊥
+answer-cases view (Ok x) bytes h is = cc
+answer-cases view (Err e) bytes (inl none) is = cc
+answer-cases {T} view (Err e) bytes (inr h) is =
     let fault : e ≡ BadOverride = cc in
-    deck_of_text-cases t (subst (λ (f : DeckFault). deck_of_text t ≡ Err f) fault h)
+    deck-cases bytes (subst (λ (f : DeckFault). deck bytes ≡ Err f) fault h)

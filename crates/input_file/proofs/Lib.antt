@@ -2,10 +2,11 @@ pub mod EntryLemmas
 pub mod FaultLemmas
 pub mod FormLemmas
 pub mod LineLemmas
-pub mod LinesLemmas
 pub mod OverrideLemmas
+pub mod PieceLemmas
 pub mod PlaceLemmas
 pub mod PrintLemmas
 pub mod ReadBackLemmas
 pub mod ReadingLemmas
 pub mod TextLemmas
+pub mod Utf8Lemmas

@@ -8,3 +8,5 @@ pub mod Decks
 pub mod Overrides
 pub mod SeenOverride
 pub mod Printed
+pub mod Unended
+pub mod Pieces

@@ -1,8 +1,8 @@
-ghost use Rattle.std.specs.Prelude.{◌≡◌, ◌≢◌, ◌+◌, ◌<◌, ◌≤◌, Some, None, [], Err, length, IsTrue, IfErr, OnOk};
+ghost use Rattle.std.specs.Prelude.{◌≡◌, Some, None, [], Err, IsTrue, IfErr, OnOk};
 ghost use Rattle.input_file.specs.Texts.{is_block_name, is_key, is_value};
 ghost use Rattle.input_file.specs.Blocks.{with_block};
 ghost use Rattle.input_file.specs.Lines.{form_of, malformed};
-ghost use Rattle.input_file.specs.Decks.{after_form, after_setting, deck_of_text, deck, greatest_length};
+ghost use Rattle.input_file.specs.Decks.{after_form, after_setting};
 ghost use Rattle.input_file.specs.Answers.{Answers};
 
 use crate::deck::Deck;
@@ -11,12 +11,9 @@ use crate::line::{LineForm, form_of};
 use std::alloc::Global;
 use std::marker::Model;
 
-/// The most bytes that a deck is read from.
-const GREATEST_LENGTH: usize = 1_048_576;
-
 /// A deck while its lines are read.
 #[derive(Drop)]
-struct Reader {
+pub(crate) struct Reader {
     deck: Deck,
     // The index of the current block.
     current: Option<usize>,
@@ -35,7 +32,7 @@ impl Model for Reader {
 }
 
 impl Reader {
-    fn new(alloc: Global) -> Reader
+    pub(crate) fn new(alloc: Global) -> Reader
         ensures { result ≡ ([], None) }
     {
         Reader {
@@ -45,7 +42,7 @@ impl Reader {
     }
 
     /// Reads one line, which is given without the LF at its end.
-    fn read_line(&mut self, number: u32, line: &str) -> Result<(), DeckFault>
+    pub(crate) fn read_line(&mut self, number: u32, line: &str) -> Result<(), DeckFault>
         ensures answer { Answers (λ _. self.new) result (after_form number self.old (form_of line.now)) }
         ensures malformed { form_of line.now ≡ malformed → result ≡ Err (DeckFault.Syntax number) }
     {
@@ -80,41 +77,11 @@ impl Reader {
             }
         }
     }
-}
 
-/// Reads a deck from the bytes of an input file.
-///
-/// Too many bytes are `TooLong`, bytes that are no UTF-8 `NotText`; then the first bad line decides, by `Syntax` or
-/// `NoBlock`. `BadOverride` does not come.
-pub fn parse(alloc: Global, bytes: &[u8]) -> Result<Deck, DeckFault>
-    ensures answer { Answers (λ d. d) result (deck bytes.now) }
-    ensures no_override { result ≢ Err DeckFault.BadOverride }
-    ensures too_long { greatest_length < length bytes.now → result ≡ Err DeckFault.TooLong }
-{
-    if bytes.len() > GREATEST_LENGTH {
-        return Err(DeckFault::TooLong);
+    pub(crate) fn into_deck(self) -> Deck
+        ensures { result ≡ self.0 }
+    {
+        let Reader { deck, current: _ } = self;
+        deck
     }
-    match str::from_utf8(bytes) {
-        Ok(text) => read_lines(alloc, text),
-        Err(fault) => Err(DeckFault::NotText {
-            place: fault.valid_up_to() as u64,
-        }),
-    }
-}
-
-fn read_lines(alloc: Global, text: &str) -> Result<Deck, DeckFault>
-    requires { length text.now ≤ 1048576 }
-    ensures { Answers (λ d. d) result (deck_of_text text.now) }
-{
-    let mut reader = Reader::new(alloc);
-    let mut number: u32 = 1;
-    let mut rest = text;
-    while let Some((line, after)) = rest.split_once('\n') {
-        reader.read_line(number, line)?;
-        number += 1;
-        rest = after;
-    }
-    reader.read_line(number, rest)?;
-    let Reader { deck, current: _ } = reader;
-    Ok(deck)
 }

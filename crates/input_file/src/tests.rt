@@ -1,5 +1,7 @@
 //! What no contract says: that the calls succeed, and the rows of the grammar on whole inputs.
-use crate::{Deck, DeckFault, parse};
+ghost use Rattle.std.specs.Prelude.{◌<◌};
+
+use crate::{Deck, DeckFault, DeckReader, NoMemory, parse};
 use std::alloc::{AllocError, Global};
 use std::test::Fail;
 
@@ -77,6 +79,35 @@ fn prints(alloc: Global, bytes: &[u8], word: &str, text: &[u8]) -> Result<bool, 
     Ok(deck.print()?.as_slice() == text)
 }
 
+/// The deck of some bytes that come in pieces of this many bytes.
+fn read_in_pieces(alloc: Global, bytes: &[u8], size: usize) -> Result<Deck, DeckFault>
+    requires { 0 < size }
+{
+    let mut reader = DeckReader::new(alloc);
+    for piece in bytes.chunks(size) {
+        reader.feed(piece)?;
+    }
+    reader.finish()
+}
+
+/// Whether two answers are the same fault, or decks of the same text.
+fn same_answer(
+    one: Result<Deck, DeckFault>,
+    other: Result<Deck, DeckFault>,
+) -> Result<bool, NoMemory> {
+    match (one, other) {
+        (Ok(one), Ok(other)) => Ok(one.print()?.as_slice() == other.print()?.as_slice()),
+        (Err(one), Err(other)) => Ok(one == other),
+        _ => Ok(false),
+    }
+}
+
+fn same_in_pieces(alloc: Global, bytes: &[u8], size: usize) -> Result<bool, NoMemory>
+    requires { 0 < size }
+{
+    same_answer(read_in_pieces(alloc, bytes, size), parse(alloc, bytes))
+}
+
 fn applied(alloc: Global, word: &str) -> Result<(), DeckFault> {
     let mut deck = parse(alloc, b"<n>\nb = 1\n")?;
     deck.apply(word)
@@ -128,6 +159,27 @@ fn each_fault_has_its_place(rt: HostRuntime) {
     for (bytes, fault) in rows {
         assert_eq!(rt; fault_of(rt.alloc(), bytes), Some(fault));
     }
+}
+
+#[test]
+fn pieces_of_any_length_give_the_deck_of_the_whole(rt: HostRuntime) -> Result<(), Fail> {
+    let decks: [&[u8]; 9] = [
+        TWO_DYES.as_bytes(),
+        b"<a>\r\nb = 1 # one\r\nc = 2\r\n",
+        b"<k\xC3\xA9> # \xE2\x82\xAC\nv = \xF0\x9F\x8C\x8A",
+        b"<a>\nb = \xE2\x82",
+        b"<a>\nb\n<a\n\xC3\n\xFF",
+        b"<a>\nb = 1\r\r\n",
+        b"a = 1\n<b",
+        b"\n\n\r\n",
+        b"",
+    ];
+    for deck in decks {
+        for size in [1usize, 2, 3, 7, 65_536] {
+            assert!(rt; same_in_pieces(rt.alloc(), deck, size)?);
+        }
+    }
+    Ok(())
 }
 
 #[test]
@@ -252,5 +304,14 @@ fn keys_that_collide_under_a_common_hash_are_read(rt: HostRuntime) -> Result<(),
         deck.apply(word.as_str())?;
     }
     assert_eq!(rt; deck.get("m", last.as_str()), Some("x"));
+    Ok(())
+}
+
+#[test]
+fn a_megabyte_in_pieces_of_one_byte_is_read(rt: HostRuntime) -> Result<(), Fail> {
+    let text = many_keys(rt.alloc())?;
+    assert!(rt; same_in_pieces(rt.alloc(), text.as_bytes(), 1)?);
+    let blanks = vec![in rt.alloc(); b' '; 1_048_576]?;
+    assert!(rt; same_in_pieces(rt.alloc(), blanks.as_slice(), 1)?);
     Ok(())
 }

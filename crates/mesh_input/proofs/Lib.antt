@@ -1,3 +1,4 @@
 pub mod FileLemmas
 pub mod OverrideLemmas
+pub mod ReadLemmas
 pub mod StepLemmas

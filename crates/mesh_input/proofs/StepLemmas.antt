@@ -6,8 +6,8 @@ use Rattle.input_file.specs.Decks.{and_then}
 use Rattle.input_file.specs.declared.fault.DeckFault.{DeckFault}
 use Rattle.input_file.specs.declared.fault.DeckFault.TheVariants as deck_fault
 use Rattle.problem_set.specs.Settings.{Settings}
-use Rattle.problem_set.specs.declared.fault.ProblemFault.{ProblemFault}
-use Rattle.problem_set.specs.declared.fault.ProblemFault.TheVariants as problem_fault
+use Rattle.deck_values.specs.declared.fault.ProblemFault.{ProblemFault}
+use Rattle.deck_values.specs.declared.fault.ProblemFault.TheVariants as problem_fault
 use Rattle.mesh_input.specs.declared.fault.Refusal.{Refusal}
 use Rattle.mesh_input.specs.declared.fault.InputFault.{InputFault}
 use Rattle.mesh_input.specs.declared.fault.InputFault.TheVariants.{Refused, ReadFault, NoMemory}

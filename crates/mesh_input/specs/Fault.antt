@@ -2,8 +2,8 @@
 use Rattle.std.specs.Prelude.{ℕ}
 use Rattle.input_file.specs.declared.fault.DeckFault.{DeckFault}
 use Rattle.input_file.specs.declared.fault.DeckFault.TheVariants as deck_fault
-use Rattle.problem_set.specs.declared.fault.ProblemFault.{ProblemFault}
-use Rattle.problem_set.specs.declared.fault.ProblemFault.TheVariants as problem_fault
+use Rattle.deck_values.specs.declared.fault.ProblemFault.{ProblemFault}
+use Rattle.deck_values.specs.declared.fault.ProblemFault.TheVariants as problem_fault
 use Rattle.mesh_outside.specs.declared.fault.OutFault.{OutFault}
 use Rattle.mesh_outside.specs.declared.fault.OutFault.TheVariants as out_fault
 use Rattle.mesh_input.specs.declared.fault.Refusal.TheVariants.{Deck, Override, Problem}

@@ -6,7 +6,7 @@ use Rattle.input_file.specs.Blocks.{Blocks}
 use Rattle.input_file.specs.Decks.{and_then, deck}
 use Rattle.input_file.specs.Overrides.{overridden}
 use Rattle.input_file.specs.declared.fault.DeckFault.{DeckFault}
-use Rattle.problem_set.specs.declared.fault.ProblemFault.{ProblemFault}
+use Rattle.deck_values.specs.declared.fault.ProblemFault.{ProblemFault}
 use Rattle.problem_set.specs.Settings.{Settings}
 use Rattle.problem_set.specs.Problems.{problem}
 use Rattle.problem_set.specs.SettingsOf.{settings_of}

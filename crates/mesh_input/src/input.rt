@@ -1,13 +1,14 @@
-ghost use Rattle.std.specs.Prelude.{◌<◌, ◌^◌, map};
+ghost use Rattle.std.specs.Prelude.{ℕ, List, ◌<◌, ◌^◌, map};
 ghost use Rattle.deck_generator.specs.Generated.{generated};
 ghost use Rattle.input_file.specs.Overrides.{overridden};
+ghost use Rattle.input_file.specs.Pieces.{HasRead};
 ghost use Rattle.problem_set.specs.SettingsOf.{settings_of};
 ghost use Rattle.mesh_input.specs.Input.{accepted_input, input_with, deck_read, or_override_fault, overridden_by, problem_read};
 ghost use Rattle.mesh_input.specs.Input.{Answers, seen_input};
 
 use crate::fault::{InputFault, stop_of_deck, stop_of_override, stop_of_problem};
 use deck_generator::generate;
-use input_file::{Deck, parse};
+use input_file::{Deck, DeckReader};
 use problem_set::{Problem, read_problem};
 use std::alloc::Global;
 
@@ -23,8 +24,11 @@ pub struct Input {
 pub fn accept_bytes(alloc: Global, bytes: &[u8], overrides: &[&str]) -> Result<Input, InputFault>
     ensures { Answers seen_input result (accepted_input bytes.now (map (λ t. t.now) overrides.now)) }
 {
-    let deck = read_deck(alloc, bytes)?;
-    accept_deck(alloc, deck, overrides)
+    let mut reader = DeckReader::new(alloc);
+    match reader.feed(bytes) {
+        Ok(()) => accept_read(alloc, reader, overrides),
+        Err(_) => Err(InputFault::NoMemory),
+    }
 }
 
 /// The input that the deck of a seed and the overrides give: the large one, or the small one.
@@ -43,6 +47,19 @@ pub fn accept_seed(
     }
 }
 
+// The input that the bytes that a reader has read and the overrides give.
+pub(crate) fn accept_read(
+    alloc: Global,
+    reader: DeckReader,
+    overrides: &[&str],
+) -> Result<Input, InputFault>
+    ensures { (bytes : List ℕ) → HasRead reader bytes
+        → Answers seen_input result (accepted_input bytes (map (λ t. t.now) overrides.now)) }
+{
+    let deck = finish_deck(reader)?;
+    accept_deck(alloc, deck, overrides)
+}
+
 // The input that a deck and the overrides give.
 fn accept_deck(alloc: Global, deck: Deck, overrides: &[&str]) -> Result<Input, InputFault>
     ensures { Answers seen_input result (input_with deck (map (λ t. t.now) overrides.now)) }
@@ -53,11 +70,11 @@ fn accept_deck(alloc: Global, deck: Deck, overrides: &[&str]) -> Result<Input, I
     Ok(Input { deck, problem })
 }
 
-// The deck of some bytes.
-fn read_deck(alloc: Global, bytes: &[u8]) -> Result<Deck, InputFault>
-    ensures { Answers (λ d. d) result (deck_read bytes.now) }
+// The deck of the bytes that a reader has read.
+fn finish_deck(reader: DeckReader) -> Result<Deck, InputFault>
+    ensures { (bytes : List ℕ) → HasRead reader bytes → Answers (λ d. d) result (deck_read bytes) }
 {
-    match parse(alloc, bytes) {
+    match reader.finish() {
         Ok(deck) => Ok(deck),
         Err(fault) => Err(stop_of_deck(fault)),
     }

@@ -5,8 +5,8 @@ use Rattle.input_file.specs.declared.fault.DeckFault.{DeckFault}
 use Rattle.input_file.specs.declared.fault.DeckFault.TheVariants as deck_fault
 use Rattle.package_fields.specs.declared.fault.FieldFault.{FieldFault}
 use Rattle.package_fields.specs.declared.fault.FieldFault.TheVariants as field_fault
-use Rattle.problem_set.specs.declared.fault.ProblemFault.{ProblemFault}
-use Rattle.problem_set.specs.declared.fault.ProblemFault.TheVariants as problem_fault
+use Rattle.deck_values.specs.declared.fault.ProblemFault.{ProblemFault}
+use Rattle.deck_values.specs.declared.fault.ProblemFault.TheVariants as problem_fault
 use Rattle.mesh_words.specs.declared.fault.UsageFault.{UsageFault}
 use Rattle.mesh_words.specs.declared.fault.UsageFault.TheVariants as usage_fault
 use Rattle.mesh_input.specs.declared.fault.Refusal.{Refusal}

@@ -40,7 +40,7 @@ fn summary(alloc: Global, problem: &Problem) -> Result<String, AllocError> {
 /// Appends all else that a problem says.
 fn push_details(text: &mut String, problem: &Problem) -> Result<(), AllocError> {
     push_mesh(text, problem)?;
-    push_pace(text, problem)?;
+    push_cycle_settings(text, problem)?;
     let moves = problem.moves.as_slice();
     for (field, moves) in problem.fields.fields().iter().zip(moves.iter()) {
         push_field(text, field, moves)?;
@@ -86,7 +86,7 @@ fn face_word(face: FaceKind) -> &'static str {
 }
 
 /// Appends the cycles and how they are run.
-fn push_pace(text: &mut String, problem: &Problem) -> Result<(), AllocError> {
+fn push_cycle_settings(text: &mut String, problem: &Problem) -> Result<(), AllocError> {
     let nlim = problem.nlim;
     let alloc = problem.alloc_threshold;
     let dealloc = problem.dealloc_threshold;

@@ -1,11 +1,5 @@
-pub mod Digits
 pub mod GridLemmas
-pub mod BlockLemmas
-pub mod Each
-pub mod Loops
-pub mod Spaces
 pub mod Prefix
-pub mod Owned
-pub mod Kept
+pub mod PackageLemmas
+pub mod KeptFlagLemmas
 pub mod RateLemmas
-pub mod EachSome

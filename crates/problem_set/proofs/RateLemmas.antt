@@ -9,8 +9,8 @@ use Rattle.std.proofs.lemmas.Bool.Decides.{nat_tests}
 use Rattle.mesh_num.specs.Rate.{rate}
 use Rattle.package_fields.specs.declared.field.Field.{Field}
 use Rattle.problem_set.specs.declared.entries.Moves.{Moves}
-use Rattle.problem_set.specs.declared.fault.ProblemFault.{ProblemFault}
-use Rattle.problem_set.specs.declared.fault.ProblemFault.TheVariants.{Rates, NoMemory}
+use Rattle.deck_values.specs.declared.fault.ProblemFault.{ProblemFault}
+use Rattle.deck_values.specs.declared.fault.ProblemFault.TheVariants.{Rates, NoMemory}
 use Rattle.problem_set.specs.Rates.{rate_sum}
 use Rattle.problem_set.specs.Fitting.{sum_fits, rates_fit}
 use Rattle.problem_set.specs.SoundEntries.{IsFittingSum}

@@ -9,14 +9,14 @@ use Rattle.package_fields.specs.declared.flag.Flag.{Flag}
 use Rattle.package_fields.specs.declared.flag.Flag.TheVariants.{Cell, Independent, FillGhost, WithFluxes, Sparse}
 use Rattle.package_fields.specs.declared.fault.FieldFault.TheVariants.{BadFlags}
 use Rattle.package_fields.specs.Flags.{has}
-use Rattle.problem_set.specs.declared.fault.ProblemFault.{ProblemFault}
-use Rattle.problem_set.specs.declared.fault.ProblemFault.TheVariants.{BadValue, Fields}
+use Rattle.deck_values.specs.declared.fault.ProblemFault.{ProblemFault}
+use Rattle.deck_values.specs.declared.fault.ProblemFault.TheVariants.{BadValue, Fields}
 use Rattle.problem_set.specs.declared.entries.Moves.{Moves}
 use Rattle.problem_set.specs.declared.field_blocks.FieldBlock.{FieldBlock}
-use Rattle.problem_set.specs.Reading.{◌>>=◌, or_fault}
-use Rattle.problem_set.specs.Numbers.{is_name}
-use Rattle.problem_set.specs.Rows.{value_at, number, signed, is_within}
-use Rattle.problem_set.specs.FieldValues.{flags_of, ids_of}
+use Rattle.deck_values.specs.Reading.{◌>>=◌, or_fault}
+use Rattle.deck_values.specs.Numbers.{is_name}
+use Rattle.deck_values.specs.BlockReader.{value_at, number, signed, is_within}
+use Rattle.deck_values.specs.FlagsAndIds.{flags_of, ids_of}
 use Rattle.problem_set.specs.SoundEntries.{greatest_total}
 
 -- a name as it is, where it is one
@@ -32,8 +32,8 @@ unfoldable pub field_name : Text → Result Text ProblemFault
 field_name block = or_fault (option_and_then name_form (behind_field block)) (BadValue block (codes "name"))
 
 -- the package that owns the field
-unfoldable pub owner : Blocks → Text → Result Text ProblemFault
-owner d block = value_at name_form d block (codes "package") (Some (codes "transport"))
+unfoldable pub package_name : Blocks → Text → Result Text ProblemFault
+package_name d block = value_at name_form d block (codes "package") (Some (codes "transport"))
 
 -- the flags of a field where the key is absent
 abbrev pub default_flags : List Flag
@@ -116,19 +116,19 @@ flags_and_ids d block name = do
 unfoldable pub field_block : Blocks → Text → Result FieldBlock ProblemFault
 field_block d block = do
   n ← field_name block
-  o ← owner d block
+  o ← package_name d block
   f ← flags_and_ids d block n
   m ← moves d block
-  Ok (record { name = n; owner = o; flags = f.0; ids = f.1; moves = m })
+  Ok (record { name = n; package_name = o; flags = f.0; ids = f.1; moves = m })
 
 -- the field of a pool with an id
 abbrev pub pool_field : Text → List Flag → ℕ → Field
 pool_field name f id = record { label = pool_label name id; base = name; id = Some id; flags = f }
 
 -- the field that is in no pool
-abbrev pub lone_field : Text → List Flag → Field
-lone_field name f = record { label = name; base = name; id = None; flags = f }
+abbrev pub dense_field : Text → List Flag → Field
+dense_field name f = record { label = name; base = name; id = None; flags = f }
 
 -- the fields that a block declares: one for each id by rising id, or one
 abbrev pub fields_of : FieldBlock → List Field
-fields_of b = if has Sparse b.flags then map (pool_field b.name b.flags) b.ids else lone_field b.name b.flags ∷ []
+fields_of b = if has Sparse b.flags then map (pool_field b.name b.flags) b.ids else dense_field b.name b.flags ∷ []

@@ -1,8 +1,8 @@
 -- Whether the rates of all fields and the sum of all totals fit.
 use Rattle.std.specs.Prelude.{◌==◌, ◌*◌, nat_le, if◌then◌else◌, ℕ, Bool, List, [], ◌∷◌, Result, Ok, Err}
 use Rattle.package_fields.specs.declared.field.Field.{Field}
-use Rattle.problem_set.specs.declared.fault.ProblemFault.{ProblemFault}
-use Rattle.problem_set.specs.declared.fault.ProblemFault.TheVariants.{Rates}
+use Rattle.deck_values.specs.declared.fault.ProblemFault.{ProblemFault}
+use Rattle.deck_values.specs.declared.fault.ProblemFault.TheVariants.{Rates}
 use Rattle.problem_set.specs.declared.entries.Moves.{Moves}
 use Rattle.problem_set.specs.Rates.{rate_sum}
 

@@ -6,11 +6,11 @@ use Rattle.input_file.specs.Blocks.{Blocks}
 use Rattle.morton_order.specs.declared.space.Shape.{Shape}
 use Rattle.problem_set.specs.declared.words.FaceKind.{FaceKind}
 use Rattle.problem_set.specs.declared.words.FaceKind.TheVariants.{Outflow}
-use Rattle.problem_set.specs.declared.fault.ProblemFault.{ProblemFault}
-use Rattle.problem_set.specs.declared.fault.ProblemFault.TheVariants.{BadValue, Limit}
+use Rattle.deck_values.specs.declared.fault.ProblemFault.{ProblemFault}
+use Rattle.deck_values.specs.declared.fault.ProblemFault.TheVariants.{BadValue, Limit}
 use Rattle.problem_set.specs.declared.grid.Grid.{Grid}
-use Rattle.problem_set.specs.Reading.{◌>>=◌, only_if}
-use Rattle.problem_set.specs.Rows.{number}
+use Rattle.deck_values.specs.Reading.{◌>>=◌, only_if}
+use Rattle.deck_values.specs.BlockReader.{number}
 use Rattle.problem_set.specs.Mesh.{is_periodic}
 
 -- the name of the block

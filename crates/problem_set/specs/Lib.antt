@@ -1,7 +1,4 @@
 pub mod Words
-pub mod Reading
-pub mod Numbers
-pub mod Rows
 pub mod Mesh
 pub mod Grid
 pub mod Kept
@@ -11,11 +8,10 @@ pub mod Sound
 pub mod Rates
 pub mod Settings
 pub mod SoundEntries
-pub mod Entries
-pub mod FieldValues
+pub mod EntryReaders
 pub mod FieldBlocks
 pub mod Packages
 pub mod Fitting
-pub mod Contents
+pub mod RepeatedBlocks
 pub mod Problems
 pub mod SettingsOf

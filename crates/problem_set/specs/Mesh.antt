@@ -6,12 +6,12 @@ use Rattle.problem_set.specs.declared.words.Mode.{Mode}
 use Rattle.problem_set.specs.declared.words.Mode.TheVariants.{Plain, Fixed, Adaptive}
 use Rattle.problem_set.specs.declared.words.FaceKind.{FaceKind}
 use Rattle.problem_set.specs.declared.words.FaceKind.TheVariants.{Periodic, Outflow, Reflecting, Inflow}
-use Rattle.problem_set.specs.declared.fault.ProblemFault.{ProblemFault}
-use Rattle.problem_set.specs.declared.fault.ProblemFault.TheVariants.{BadValue}
+use Rattle.deck_values.specs.declared.fault.ProblemFault.{ProblemFault}
+use Rattle.deck_values.specs.declared.fault.ProblemFault.TheVariants.{BadValue}
 use Rattle.problem_set.specs.declared.mesh.Refining.{Refining}
 use Rattle.problem_set.specs.declared.mesh.Mesh.{Mesh}
-use Rattle.problem_set.specs.Reading.{◌>>=◌, only_if}
-use Rattle.problem_set.specs.Rows.{value_at, number, number_or_one, signed}
+use Rattle.deck_values.specs.Reading.{◌>>=◌, only_if}
+use Rattle.deck_values.specs.BlockReader.{value_at, number, number_or_one, signed}
 use Rattle.problem_set.specs.Words.{mode_named, face_kind_named}
 
 -- the name of the block

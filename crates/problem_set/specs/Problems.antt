@@ -2,24 +2,24 @@
 use Rattle.std.specs.Prelude.{◌-◌, nat_le, ℕ, Result, Ok}
 use Rattle.std.specs.List.{zip}
 use Rattle.input_file.specs.Blocks.{Blocks}
-use Rattle.problem_set.specs.declared.fault.ProblemFault.{ProblemFault}
-use Rattle.problem_set.specs.declared.fault.ProblemFault.TheVariants.{Bound}
+use Rattle.deck_values.specs.declared.fault.ProblemFault.{ProblemFault}
+use Rattle.deck_values.specs.declared.fault.ProblemFault.TheVariants.{Bound}
 use Rattle.problem_set.specs.declared.mesh.Mesh.{Mesh}
 use Rattle.problem_set.specs.declared.grid.Grid.{Grid}
 use Rattle.problem_set.specs.declared.stepping.Stepping.{Stepping}
-use Rattle.problem_set.specs.declared.contents.Contents.{Contents}
-use Rattle.problem_set.specs.Reading.{◌>>=◌, only_if}
+use Rattle.problem_set.specs.declared.repeated_blocks.RepeatedBlocks.{RepeatedBlocks}
+use Rattle.deck_values.specs.Reading.{◌>>=◌, only_if}
 use Rattle.problem_set.specs.Settings.{Settings}
 use Rattle.problem_set.specs.Mesh.{mesh_keys}
 use Rattle.problem_set.specs.Grid.{grid}
 use Rattle.problem_set.specs.Stepping.{stepping}
-use Rattle.problem_set.specs.Contents.{contents}
+use Rattle.problem_set.specs.RepeatedBlocks.{repeated_blocks}
 use Rattle.problem_set.specs.Fitting.{rates_fit}
 use Rattle.problem_set.specs.Rates.{bound}
 use Rattle.problem_set.specs.SoundEntries.{greatest_total}
 
--- the settings that the parts of a deck come to
-abbrev pub settings : Mesh → Grid → Stepping → Contents → Settings
+-- the settings that the sections of a deck come to
+abbrev pub settings : Mesh → Grid → Stepping → RepeatedBlocks → Settings
 settings m g s c = record {
   shape = g.shape;
   size = m.size;
@@ -33,16 +33,16 @@ settings m g s c = record {
   alloc_threshold = s.sparsity.alloc_threshold;
   dealloc_threshold = s.sparsity.dealloc_threshold;
   dealloc_count = s.sparsity.dealloc_count;
-  denominator = s.pace.denominator;
-  nstages = s.pace.nstages;
-  refine_every = s.pace.refine_every;
-  dump_every = s.pace.dump_every;
+  denominator = s.cycle.denominator;
+  nstages = s.cycle.nstages;
+  refine_every = s.cycle.refine_every;
+  dump_every = s.cycle.dump_every;
   fields = c.field_table.fields;
   moves = c.field_table.moves;
-  statics = c.entries.statics;
-  boxes = c.entries.boxes;
-  reactions = c.entries.reactions;
-  criteria = c.entries.criteria;
+  statics = c.counted.statics;
+  boxes = c.counted.boxes;
+  reactions = c.counted.reactions;
+  criteria = c.counted.criteria;
 }
 
 -- all that a deck says, part by part
@@ -51,7 +51,7 @@ settings_read d = do
   m ← mesh_keys d
   g ← grid d m.size m.faces
   s ← stepping d
-  c ← contents d m.size m.refining.mode m.refining.levels
+  c ← repeated_blocks d m.size m.refining.mode m.refining.levels
   Ok (settings m g s c)
 
 -- the opening sum of all totals, and all that may come in during the run

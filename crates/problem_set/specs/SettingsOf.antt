@@ -1,12 +1,12 @@
 -- A problem as plain data.
 use Rattle.problem_set.specs.declared.problem.Problem.{Problem}
-use Rattle.problem_set.specs.declared.deck_parts.Parts.{Parts}
+use Rattle.problem_set.specs.declared.deck_sections.DeckSections.{DeckSections}
 use Rattle.problem_set.specs.Settings.{Settings}
 use Rattle.problem_set.specs.Problems.{settings}
 
--- what the parts come to
-abbrev pub parts_settings : Parts → Settings
-parts_settings p = settings p.mesh p.grid p.stepping p.contents
+-- what the sections come to
+abbrev pub sections_settings : DeckSections → Settings
+sections_settings p = settings p.mesh p.grid p.stepping p.repeated
 
 -- what a problem says
 abbrev pub settings_of : Problem → Settings

@@ -6,7 +6,7 @@ use Rattle.problem_set.specs.declared.words.FaceKind.{FaceKind}
 use Rattle.problem_set.specs.declared.words.FaceKind.TheVariants.{Periodic}
 use Rattle.problem_set.specs.declared.mesh.Refining.{Refining}
 use Rattle.problem_set.specs.declared.stepping.Sparsity.{Sparsity}
-use Rattle.problem_set.specs.declared.stepping.Pace.{Pace}
+use Rattle.problem_set.specs.declared.stepping.CycleSettings.{CycleSettings}
 use Rattle.problem_set.specs.declared.stepping.Stepping.{Stepping}
 use Rattle.morton_order.specs.declared.space.Shape.{Shape}
 use Rattle.morton_order.specs.Space.{IsShape}
@@ -84,7 +84,7 @@ pub record IsSparsity (s : Sparsity) : Type 0 where
   pub most_count : s.dealloc_count ≤ 65535
 
 -- the numbers of a cycle
-pub record IsPace (p : Pace) : Type 0 where
+pub record IsCycleSettings (p : CycleSettings) : Type 0 where
   pub least_denominator : 1 ≤ p.denominator
   pub most_denominator : p.denominator ≤ 1000000000
   pub least_stages : 1 ≤ p.nstages
@@ -98,4 +98,4 @@ pub record IsPace (p : Pace) : Type 0 where
 pub record IsStepping (s : Stepping) : Type 0 where
   pub most_cycles : s.nlim ≤ 65535
   pub sparsity_sound : IsSparsity s.sparsity
-  pub pace_sound : IsPace s.pace
+  pub cycle_sound : IsCycleSettings s.cycle

@@ -2,12 +2,12 @@
 use Rattle.std.specs.Prelude.{ℕ, Some, None, Result, Ok, codes}
 use Rattle.input_file.specs.Texts.{Text}
 use Rattle.input_file.specs.Blocks.{Blocks}
-use Rattle.problem_set.specs.declared.fault.ProblemFault.{ProblemFault}
+use Rattle.deck_values.specs.declared.fault.ProblemFault.{ProblemFault}
 use Rattle.problem_set.specs.declared.stepping.Sparsity.{Sparsity}
-use Rattle.problem_set.specs.declared.stepping.Pace.{Pace}
+use Rattle.problem_set.specs.declared.stepping.CycleSettings.{CycleSettings}
 use Rattle.problem_set.specs.declared.stepping.Stepping.{Stepping}
-use Rattle.problem_set.specs.Reading.{◌>>=◌}
-use Rattle.problem_set.specs.Rows.{number}
+use Rattle.deck_values.specs.Reading.{◌>>=◌}
+use Rattle.deck_values.specs.BlockReader.{number}
 use Rattle.problem_set.specs.SoundEntries.{greatest_total}
 
 -- the names of the blocks
@@ -53,8 +53,8 @@ sparsity d = do
   Ok (record { alloc_threshold = a; dealloc_threshold = z; dealloc_count = n })
 
 -- how a cycle goes on
-unfoldable pub pace : Blocks → Result Pace ProblemFault
-pace d = do
+unfoldable pub cycle_settings : Blocks → Result CycleSettings ProblemFault
+cycle_settings d = do
   c ← denominator d
   n ← nstages d
   r ← refine_every d
@@ -66,5 +66,5 @@ unfoldable pub stepping : Blocks → Result Stepping ProblemFault
 stepping d = do
   n ← nlim d
   s ← sparsity d
-  p ← pace d
-  Ok (record { nlim = n; sparsity = s; pace = p })
+  p ← cycle_settings d
+  Ok (record { nlim = n; sparsity = s; cycle = p })

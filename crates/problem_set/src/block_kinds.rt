@@ -1,14 +1,11 @@
 //! The blocks of a deck that come in any number: kinds, names, counts.
 
-ghost use Rattle.std.specs.Prelude.{◌≡◌, ◌<◌, ◌≤◌, ◌++◌, [], ◌∷◌, nat_eq, IfOk, IfErr, OnOk, Ok, Some, length, filter, map};
-ghost use Rattle.std.specs.List.{starts_with};
-ghost use Rattle.input_file.specs.Blocks.{name_at};
-ghost use Rattle.problem_set.specs.Reading.{Gives};
-ghost use Rattle.problem_set.specs.declared.fault.ProblemFault.TheVariants.{NoMemory as no_memory};
-ghost use Rattle.problem_set.specs.BlockKinds.{names_of, few_of, statics, boxes, reactions, criteria, block_names};
+ghost use Rattle.std.specs.Prelude.{◌≤◌, IfOk, length};
+ghost use Rattle.deck_values.specs.Reading.{Gives};
+ghost use Rattle.problem_set.specs.BlockKinds.{statics, boxes, reactions, criteria, block_names};
 
-use crate::fault::ProblemFault;
 use crate::words::Mode;
+use deck_values::{ProblemFault, names_within};
 use input_file::Deck;
 use package_fields::{Items, Name};
 use std::alloc::Global;
@@ -50,8 +47,8 @@ fn find_statics(alloc: Global, deck: &Deck, mode: Mode) -> Result<Items<Name>, P
 {
     match mode {
         Mode::Plain => Ok(Items::new(alloc)),
-        Mode::Fixed => find_few(alloc, deck, "static", 256),
-        Mode::Adaptive => find_few(alloc, deck, "static", 256),
+        Mode::Fixed => names_within(alloc, deck, "static", 256),
+        Mode::Adaptive => names_within(alloc, deck, "static", 256),
     }
 }
 
@@ -60,7 +57,7 @@ fn find_boxes(alloc: Global, deck: &Deck) -> Result<Items<Name>, ProblemFault>
     ensures value { Gives result (boxes deck.now) }
     ensures few { IfOk result (λ names. length names ≤ 4096) }
 {
-    find_few(alloc, deck, "box", 4096)
+    names_within(alloc, deck, "box", 4096)
 }
 
 #[tactic(auto, unfolding(crate::specs::BlockKinds::reactions))]
@@ -68,7 +65,7 @@ fn find_reactions(alloc: Global, deck: &Deck) -> Result<Items<Name>, ProblemFaul
     ensures value { Gives result (reactions deck.now) }
     ensures few { IfOk result (λ names. length names ≤ 256) }
 {
-    find_few(alloc, deck, "reaction", 256)
+    names_within(alloc, deck, "reaction", 256)
 }
 
 #[tactic(auto, unfolding(crate::specs::BlockKinds::criteria))]
@@ -79,82 +76,6 @@ fn find_criteria(alloc: Global, deck: &Deck, mode: Mode) -> Result<Items<Name>, 
     match mode {
         Mode::Plain => Ok(Items::new(alloc)),
         Mode::Fixed => Ok(Items::new(alloc)),
-        Mode::Adaptive => find_few(alloc, deck, "criterion", 64),
+        Mode::Adaptive => names_within(alloc, deck, "criterion", 64),
     }
-}
-
-/// The names of the blocks of a kind, of which there may be only so many.
-#[tactic(auto, unfolding(crate::specs::BlockKinds::few_of))]
-fn find_few(
-    alloc: Global,
-    deck: &Deck,
-    kind: &str,
-    most: usize,
-) -> Result<Items<Name>, ProblemFault>
-    ensures value { Gives result (few_of deck.now kind.now most) }
-    ensures few { IfOk result (λ names. length names ≤ most) }
-{
-    let names = names_of(alloc, deck, kind)?;
-    if names.len() <= most {
-        return Ok(names);
-    }
-    let block = Name::copy_of(alloc, kind)?;
-    let name = Name::copy_of(alloc, "count")?;
-    Err(ProblemFault::Limit {
-        block,
-        name,
-        value: names.len() as i128,
-    })
-}
-
-/// The names of the blocks of a kind, in deck order.
-#[tactic(auto, unfolding(crate::specs::BlockKinds::names_of))]
-pub fn names_of(alloc: Global, deck: &Deck, kind: &str) -> Result<Items<Name>, ProblemFault>
-    ensures { Gives result (Ok (names_of deck.now kind.now)) }
-{
-    let prefix = format!(in alloc; "{kind}/")?;
-    names_after(alloc, deck, prefix.as_str())
-}
-
-/// The names of the blocks that begin with a text, in deck order.
-fn names_after(alloc: Global, deck: &Deck, prefix: &str) -> Result<Items<Name>, ProblemFault>
-    ensures { Gives result (Ok (filter (λ name. starts_with nat_eq name prefix.now) (map (λ e. e.0) deck.now))) }
-{
-    let mut names = Items::new(alloc);
-    for i in 0..deck.len() {
-        push_if_begins(alloc, &mut names, block_name(deck, i), prefix)?;
-    }
-    Ok(names)
-}
-
-/// The name of a block that is there.
-#[tactic(auto, using(crate::proofs::BlockLemmas::is_some_block))]
-fn block_name(deck: &Deck, i: usize) -> &str
-    requires { i < length deck.now }
-    ensures { name_at deck.now i ≡ Some result.now }
-{
-    deck.block_name(i).unwrap()
-}
-
-/// Adds a name to some names where it begins with a text.
-fn push_if_begins(
-    alloc: Global,
-    names: &mut Items<Name>,
-    name: &str,
-    prefix: &str,
-) -> Result<(), ProblemFault>
-    ensures ok { OnOk result (names.new ≡ names.old ++ filter (λ name. starts_with nat_eq name prefix.now) (name.now ∷ [])) }
-    ensures fault { IfErr result (λ fault. fault ≡ no_memory) }
-{
-    if begins_with(name, prefix) {
-        names.push(Name::copy_of(alloc, name)?)?;
-    }
-    Ok(())
-}
-
-#[tactic(auto, using(std::proofs::lemmas::Str::Pattern::starts_text))]
-fn begins_with(text: &str, prefix: &str) -> bool
-    ensures { result ≡ starts_with nat_eq text.now prefix.now }
-{
-    text.starts_with(prefix)
 }

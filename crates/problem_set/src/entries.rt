@@ -3,7 +3,7 @@
 use crate::words::Method;
 
 /// How a field moves, and what stands outside of the faces where it flows in.
-#[derive(Clone, Copy, Debug)]
+#[derive(Clone, Copy)]
 pub struct Moves {
     /// The velocity along each axis.
     pub v: [i64; 3],
@@ -16,7 +16,7 @@ pub struct Moves {
 }
 
 /// A part of the mesh that is refined to a level from the start, in root cells with both ends included.
-#[derive(Clone, Copy, Debug)]
+#[derive(Clone, Copy)]
 pub struct StaticAt {
     pub level: u32,
     pub lo: [u32; 3],
@@ -24,7 +24,7 @@ pub struct StaticAt {
 }
 
 /// An amount of a field in each root cell of a part of the mesh, both ends included, at the start.
-#[derive(Clone, Copy, Debug)]
+#[derive(Clone, Copy)]
 pub struct StartBox {
     /// The number of the field.
     pub field: u32,
@@ -34,7 +34,7 @@ pub struct StartBox {
 }
 
 /// In each cell, the portion `num / den` of one field that becomes another in a cycle.
-#[derive(Clone, Copy, Debug)]
+#[derive(Clone, Copy)]
 pub struct Reaction {
     /// The numbers of the two fields.
     pub from: u32,
@@ -44,7 +44,7 @@ pub struct Reaction {
 }
 
 /// When a block is to be refined, and when it may be merged with its siblings.
-#[derive(Clone, Copy, Debug)]
+#[derive(Clone, Copy)]
 pub struct Criterion {
     /// The number of the field that is measured.
     pub field: u32,

@@ -1,49 +1,102 @@
-//! Reading the static boxes, opening boxes, reactions and criteria of a deck, each kind in deck order.
+//! Reading the static boxes, opening boxes, reactions and criteria of a deck.
 
-ghost use Rattle.std.specs.Prelude.{◌≡◌, ◌≤◌, IfOk, All, length};
-ghost use Rattle.problem_set.specs.Reading.{Gives, each};
-ghost use Rattle.problem_set.specs.Entries.{static_at, start_box, reaction, method, tolerances, criterion};
+ghost use Rattle.std.specs.Prelude.{◌≤◌, IfOk, length};
+ghost use Rattle.deck_values.specs.Reading.{Gives};
+ghost use Rattle.problem_set.specs.EntryReaders.{static_at, start_box, reaction, method, tolerances, criterion};
 ghost use Rattle.problem_set.specs.Sound.{IsSize};
 ghost use Rattle.problem_set.specs.SoundEntries.{IsStatic, IsBox, IsReaction, IsCriterion, greatest_total};
 
 use crate::entries::{Criterion, Reaction, StartBox, StaticAt};
-use crate::fault::ProblemFault;
-use crate::mesh_part::Part;
-use crate::reader::BlockReader;
+use crate::mesh_part::{
+    Part, read_amount, read_label, read_lower_amount, read_other_label, read_part,
+};
 use crate::words::Method;
-use input_file::Deck;
-use package_fields::{Items, Name, Registry};
-use std::alloc::Global;
+use deck_values::{BlockForm, BlockReader, ProblemFault};
+use package_fields::Registry;
 
-/// Reads the static boxes of these names.
-pub fn read_statics(
-    alloc: Global,
-    deck: &Deck,
-    names: &[Name],
-    size: [u32; 3],
-    levels: u32,
-) -> Result<Items<StaticAt>, ProblemFault>
-    requires size { IsSize size }
-    requires levels { 1 ≤ levels }
-    requires most { levels ≤ 11 }
-    ensures value { Gives result (each (static_at deck.now size levels) names.now) }
-    ensures sound { IfOk result (All (IsStatic size levels)) }
-    ensures as_many { IfOk result (λ list. length list ≡ length names.now) }
-{
-    let mut list = Items::new(alloc);
-    for name in names {
-        let block = BlockReader {
-            alloc,
-            deck,
-            block: name.as_str(),
-        };
-        list.push(read_static(&block, size, levels)?)?;
+/// How static boxes are read.
+#[derive(Drop)]
+pub struct StaticForm {
+    pub size: [u32; 3],
+    pub levels: u32,
+    pub ghost size_sound: { IsSize size },
+    pub ghost least: { 1 ≤ levels },
+    pub ghost most: { levels ≤ 11 },
+}
+
+impl BlockForm for StaticForm {
+    type Entry = StaticAt;
+
+    ghost entry = { λ form deck. static_at deck form.size form.levels };
+
+    ghost is_sound = { λ form. IsStatic form.size form.levels };
+
+    fn read(&self, block: &BlockReader) -> Result<StaticAt, ProblemFault> {
+        read_static(block, self.size, self.levels)
     }
-    Ok(list)
+}
+
+/// How opening boxes are read.
+#[derive(Drop)]
+pub struct BoxForm<'a> {
+    pub size: [u32; 3],
+    pub fields: &'a Registry,
+    pub ghost size_sound: { IsSize size },
+}
+
+impl<'a> BlockForm for BoxForm<'a> {
+    type Entry = StartBox;
+
+    ghost entry = { λ form deck. start_box deck form.size form.fields.now.fields };
+
+    ghost is_sound = { λ form. IsBox form.size (length form.fields.now.fields) };
+
+    fn read(&self, block: &BlockReader) -> Result<StartBox, ProblemFault> {
+        read_box(block, self.size, self.fields)
+    }
+}
+
+/// How reactions are read.
+#[derive(Drop)]
+pub struct ReactionForm<'a> {
+    pub fields: &'a Registry,
+}
+
+impl<'a> BlockForm for ReactionForm<'a> {
+    type Entry = Reaction;
+
+    ghost entry = { λ form deck. reaction deck form.fields.now.fields };
+
+    ghost is_sound = { λ form. IsReaction (length form.fields.now.fields) };
+
+    fn read(&self, block: &BlockReader) -> Result<Reaction, ProblemFault> {
+        read_reaction(block, self.fields)
+    }
+}
+
+/// How criteria are read.
+#[derive(Drop)]
+pub struct CriterionForm<'a> {
+    pub levels: u32,
+    pub fields: &'a Registry,
+    pub ghost least: { 1 ≤ levels },
+    pub ghost most: { levels ≤ 11 },
+}
+
+impl<'a> BlockForm for CriterionForm<'a> {
+    type Entry = Criterion;
+
+    ghost entry = { λ form deck. criterion deck form.levels form.fields.now.fields };
+
+    ghost is_sound = { λ form. IsCriterion form.levels (length form.fields.now.fields) };
+
+    fn read(&self, block: &BlockReader) -> Result<Criterion, ProblemFault> {
+        read_criterion(block, self.levels, self.fields)
+    }
 }
 
 /// A static box.
-#[tactic(auto, unfolding(crate::specs::Entries::static_at))]
+#[tactic(auto, unfolding(crate::specs::EntryReaders::static_at))]
 fn read_static(block: &BlockReader, size: [u32; 3], levels: u32) -> Result<StaticAt, ProblemFault>
     requires size { IsSize size }
     requires levels { 1 ≤ levels }
@@ -52,38 +105,13 @@ fn read_static(block: &BlockReader, size: [u32; 3], levels: u32) -> Result<Stati
     ensures sound { IfOk result (IsStatic size levels) }
 {
     let level = block.number("level", 1, u64::from(levels - 1), None)?;
-    let Part { lo, hi } = block.part(size)?;
+    let Part { lo, hi } = read_part(block, size)?;
     let level = level as u32;
     Ok(StaticAt { level, lo, hi })
 }
 
-/// Reads the opening boxes of these names.
-pub fn read_boxes(
-    alloc: Global,
-    deck: &Deck,
-    names: &[Name],
-    size: [u32; 3],
-    fields: &Registry,
-) -> Result<Items<StartBox>, ProblemFault>
-    requires { IsSize size }
-    ensures value { Gives result (each (start_box deck.now size fields.now.fields) names.now) }
-    ensures sound { IfOk result (All (IsBox size (length fields.now.fields))) }
-    ensures as_many { IfOk result (λ list. length list ≡ length names.now) }
-{
-    let mut list = Items::new(alloc);
-    for name in names {
-        let block = BlockReader {
-            alloc,
-            deck,
-            block: name.as_str(),
-        };
-        list.push(read_box(&block, size, fields)?)?;
-    }
-    Ok(list)
-}
-
 /// An opening box.
-#[tactic(auto, unfolding(crate::specs::Entries::start_box))]
+#[tactic(auto, unfolding(crate::specs::EntryReaders::start_box))]
 fn read_box(
     block: &BlockReader,
     size: [u32; 3],
@@ -93,9 +121,9 @@ fn read_box(
     ensures value { Gives result (start_box block.now.deck.now size fields.now.fields block.now.block.now) }
     ensures sound { IfOk result (IsBox size (length fields.now.fields)) }
 {
-    let field = block.label(fields, "field")?;
-    let Part { lo, hi } = block.part(size)?;
-    let amount = block.amount("amount")?;
+    let field = read_label(block, fields, "field")?;
+    let Part { lo, hi } = read_part(block, size)?;
+    let amount = read_amount(block, "amount")?;
     Ok(StartBox {
         field,
         lo,
@@ -104,70 +132,21 @@ fn read_box(
     })
 }
 
-/// Reads the reactions of these names.
-pub fn read_reactions(
-    alloc: Global,
-    deck: &Deck,
-    names: &[Name],
-    fields: &Registry,
-) -> Result<Items<Reaction>, ProblemFault>
-    ensures value { Gives result (each (reaction deck.now fields.now.fields) names.now) }
-    ensures sound { IfOk result (All (IsReaction (length fields.now.fields))) }
-    ensures as_many { IfOk result (λ list. length list ≡ length names.now) }
-{
-    let mut list = Items::new(alloc);
-    for name in names {
-        let block = BlockReader {
-            alloc,
-            deck,
-            block: name.as_str(),
-        };
-        list.push(read_reaction(&block, fields)?)?;
-    }
-    Ok(list)
-}
-
 /// A reaction.
-#[tactic(auto, unfolding(crate::specs::Entries::reaction))]
+#[tactic(auto, unfolding(crate::specs::EntryReaders::reaction))]
 fn read_reaction(block: &BlockReader, fields: &Registry) -> Result<Reaction, ProblemFault>
     ensures value { Gives result (reaction block.now.deck.now fields.now.fields block.now.block.now) }
     ensures sound { IfOk result (IsReaction (length fields.now.fields)) }
 {
-    let from = block.label(fields, "from")?;
-    let to = block.other_label(fields, "to", from)?;
+    let from = read_label(block, fields, "from")?;
+    let to = read_other_label(block, fields, "to", from)?;
     let den = block.number("den", 1, 1_000_000_000, None)?;
     let num = block.number("num", 0, den, None)?;
     Ok(Reaction { from, to, num, den })
 }
 
-/// Reads the criteria of these names.
-pub fn read_criteria(
-    alloc: Global,
-    deck: &Deck,
-    names: &[Name],
-    levels: u32,
-    fields: &Registry,
-) -> Result<Items<Criterion>, ProblemFault>
-    requires levels { 1 ≤ levels }
-    requires most { levels ≤ 11 }
-    ensures value { Gives result (each (criterion deck.now levels fields.now.fields) names.now) }
-    ensures sound { IfOk result (All (IsCriterion levels (length fields.now.fields))) }
-    ensures as_many { IfOk result (λ list. length list ≡ length names.now) }
-{
-    let mut list = Items::new(alloc);
-    for name in names {
-        let block = BlockReader {
-            alloc,
-            deck,
-            block: name.as_str(),
-        };
-        list.push(read_criterion(&block, levels, fields)?)?;
-    }
-    Ok(list)
-}
-
 /// A criterion.
-#[tactic(auto, unfolding(crate::specs::Entries::criterion))]
+#[tactic(auto, unfolding(crate::specs::EntryReaders::criterion))]
 fn read_criterion(
     block: &BlockReader,
     levels: u32,
@@ -178,7 +157,7 @@ fn read_criterion(
     ensures value { Gives result (criterion block.now.deck.now levels fields.now.fields block.now.block.now) }
     ensures sound { IfOk result (IsCriterion levels (length fields.now.fields)) }
 {
-    let field = block.label(fields, "field")?;
+    let field = read_label(block, fields, "field")?;
     let method = read_method(block)?;
     let (refine_tol, derefine_tol) = read_tolerances(block)?;
     let finest = u64::from(levels - 1);
@@ -193,7 +172,7 @@ fn read_criterion(
 }
 
 /// How a criterion measures a block.
-#[tactic(auto, unfolding(crate::specs::Entries::method))]
+#[tactic(auto, unfolding(crate::specs::EntryReaders::method))]
 fn read_method(block: &BlockReader) -> Result<Method, ProblemFault>
     ensures { Gives result (method block.now.deck.now block.now.block.now) }
 {
@@ -207,13 +186,13 @@ fn read_method(block: &BlockReader) -> Result<Method, ProblemFault>
 }
 
 /// The tolerances of a criterion: above the first a block is refined, below the second it is merged.
-#[tactic(auto, unfolding(crate::specs::Entries::tolerances))]
+#[tactic(auto, unfolding(crate::specs::EntryReaders::tolerances))]
 fn read_tolerances(block: &BlockReader) -> Result<(u64, u64), ProblemFault>
     ensures value { Gives result (tolerances block.now.deck.now block.now.block.now) }
     ensures most { IfOk result (λ both. both.0 ≤ greatest_total) }
     ensures ordered { IfOk result (λ both. both.1 ≤ both.0) }
 {
-    let refine_tol = block.amount("refine_tol")?;
-    let derefine_tol = block.lower_amount("derefine_tol", refine_tol)?;
+    let refine_tol = read_amount(block, "refine_tol")?;
+    let derefine_tol = read_lower_amount(block, "derefine_tol", refine_tol)?;
     Ok((refine_tol, derefine_tol))
 }

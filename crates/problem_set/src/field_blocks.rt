@@ -2,18 +2,14 @@
 
 ghost use Rattle.std.specs.Prelude.{◌≡◌, ◌≤◌, IfOk, All, Ok, length, unsigned_abs};
 ghost use Rattle.std.specs.Option.{option_copied};
-ghost use Rattle.problem_set.specs.Reading.{Gives};
-ghost use Rattle.problem_set.specs.FieldBlocks.{behind_field, field_name, default_flags, owner, flags, ids, flags_and_ids, speed, spread, order, entry_amount};
+ghost use Rattle.deck_values.specs.Reading.{Gives};
+ghost use Rattle.problem_set.specs.FieldBlocks.{behind_field, field_name, default_flags, package_name, flags, ids, flags_and_ids, speed, spread, order, entry_amount};
 ghost use Rattle.problem_set.specs.FieldBlocks.{speeds, entry_pair, entry_amounts, moves, field_block};
 ghost use Rattle.problem_set.specs.SoundEntries.{IsMoves, IsSlow, greatest_total};
 
 use crate::entries::Moves;
-use crate::fault::ProblemFault;
-use crate::field_values::{flags_of, ids_of};
 use crate::mesh_part::GREATEST_TOTAL;
-use crate::numbers::is_name;
-use crate::reader::BlockReader;
-use input_file::Deck;
+use deck_values::{BlockReader, ProblemFault, flags_of, ids_of, is_name};
 use package_fields::{FieldFault, Flag, Flags, Items, Name, has_flag};
 use std::alloc::Global;
 
@@ -22,31 +18,26 @@ use std::alloc::Global;
 pub struct FieldBlock {
     pub name: Name,
     /// The name of the package that the fields are added with.
-    pub owner: Name,
+    pub package_name: Name,
     pub flags: Flags,
     /// The ids of a pool by rising number, else empty.
     pub ids: Items<u32>,
     pub moves: Moves,
 }
 
-/// Reads a block that declares a field.
+/// Reads a block that declares a field, or the fields of a pool.
 #[tactic(auto, unfolding(crate::specs::FieldBlocks::field_block))]
-pub fn read_field_block(alloc: Global, deck: &Deck, name: &Name) -> Result<FieldBlock, ProblemFault>
-    ensures value { Gives result (field_block deck.now name.now) }
+pub fn read_field_block(block: &BlockReader) -> Result<FieldBlock, ProblemFault>
+    ensures value { Gives result (field_block block.now.deck.now block.now.block.now) }
     ensures sound { IfOk result (λ b. IsMoves b.moves) }
 {
-    let block = BlockReader {
-        alloc,
-        deck,
-        block: name.as_str(),
-    };
-    let name = read_field_name(&block)?;
-    let owner = read_owner(&block)?;
-    let (flags, ids) = read_flags_and_ids(&block, &name)?;
-    let moves = read_moves(&block)?;
+    let name = read_field_name(block)?;
+    let package_name = read_package_name(block)?;
+    let (flags, ids) = read_flags_and_ids(block, &name)?;
+    let moves = read_moves(block)?;
     Ok(FieldBlock {
         name,
-        owner,
+        package_name,
         flags,
         ids,
         moves,
@@ -78,9 +69,9 @@ fn behind_field(block: &str) -> Option<&str>
     block.strip_prefix("field/")
 }
 
-#[tactic(auto, unfolding(crate::specs::FieldBlocks::owner))]
-fn read_owner(block: &BlockReader) -> Result<Name, ProblemFault>
-    ensures { Gives result (owner block.now.deck.now block.now.block.now) }
+#[tactic(auto, unfolding(crate::specs::FieldBlocks::package_name))]
+fn read_package_name(block: &BlockReader) -> Result<Name, ProblemFault>
+    ensures { Gives result (package_name block.now.deck.now block.now.block.now) }
 {
     match block.text("package") {
         Some(name) => {
@@ -177,7 +168,7 @@ fn read_speeds(block: &BlockReader) -> Result<[i64; 3], ProblemFault>
     Ok([v1, v2, v3])
 }
 
-#[tactic(auto, unfolding(crate::specs::FieldBlocks::speed, crate::specs::Rows::signed))]
+#[tactic(auto, unfolding(crate::specs::FieldBlocks::speed, deck_values::specs::BlockReader::signed))]
 fn read_speed(block: &BlockReader, key: &str) -> Result<i64, ProblemFault>
     ensures value { Gives result (speed block.now.deck.now block.now.block.now key.now) }
     ensures slow { IfOk result (λ v. unsigned_abs v ≤ 1000000000) }

@@ -1,16 +1,15 @@
 //! The keys of the blocks of the mesh, and the lattice of root blocks that follows.
 
 ghost use Rattle.std.specs.Prelude.{◌≡◌, ◌≤◌, ◌/◌, IfOk};
-ghost use Rattle.problem_set.specs.Reading.{Gives};
+ghost use Rattle.deck_values.specs.Reading.{Gives};
 ghost use Rattle.problem_set.specs.Grid.{meshblock as meshblock_name, cells_along, cells_or_one, cells, grid, dims_of, shape_of, root_blocks};
 ghost use Rattle.problem_set.specs.Mesh.{is_periodic};
 ghost use Rattle.std.specs.List.{slice_index_or};
 ghost use Rattle.problem_set.specs.Sound.{IsSize, IsFaces};
 ghost use Rattle.problem_set.specs.Sound.{IsCellsAlong, IsCells, IsGrid};
 
-use crate::fault::ProblemFault;
-use crate::reader::BlockReader;
 use crate::words::{FaceKind, Faces};
+use deck_values::{BlockReader, ProblemFault};
 use input_file::Deck;
 use morton_order::Shape;
 use std::alloc::Global;
@@ -52,11 +51,7 @@ fn meshblock_reader<'a>(alloc: Global, deck: &'a Deck) -> BlockReader<'a>
     ensures deck { result.deck.now ≡ deck.now }
     ensures block { result.block.now ≡ meshblock_name }
 {
-    BlockReader {
-        alloc,
-        deck,
-        block: "parthenon/meshblock",
-    }
+    BlockReader::new(alloc, deck, "parthenon/meshblock")
 }
 
 #[tactic(auto, unfolding(crate::specs::Grid::cells))]

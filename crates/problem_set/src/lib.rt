@@ -8,28 +8,26 @@
 #![tactic(auto)]
 
 mod block_kinds;
-mod contents;
-mod deck_parts;
+mod deck_sections;
 mod entries;
 mod entry_readers;
-mod fault;
 mod field_blocks;
-mod field_values;
+mod field_form;
 mod fitting;
 mod grid;
 mod mesh;
 mod mesh_part;
-mod numbers;
 mod packages;
 mod problem;
 mod problem_reader;
 mod rates;
-mod reader;
+mod repeated_blocks;
 mod stepping;
 mod words;
 
+pub use deck_generator::generate;
+pub use deck_values::ProblemFault;
 pub use entries::{Criterion, Moves, Reaction, StartBox, StaticAt};
-pub use fault::ProblemFault;
 pub use problem::Problem;
 pub use problem_reader::read_problem;
 pub use rates::Rates;

@@ -1,7 +1,7 @@
 //! The keys of the mesh: its size, how it is refined, and its faces.
 
 ghost use Rattle.std.specs.Prelude.{◌≡◌, ◌≤◌, [], ◌∷◌, IfOk, IfSome, Ok};
-ghost use Rattle.problem_set.specs.Reading.{Gives};
+ghost use Rattle.deck_values.specs.Reading.{Gives};
 ghost use Rattle.problem_set.specs.Mesh.{mesh as mesh_block, size1, size2, size3};
 ghost use Rattle.problem_set.specs.Mesh.{refinement, numlevel};
 ghost use Rattle.problem_set.specs.Mesh.{derefine_count, pack_size};
@@ -9,9 +9,8 @@ ghost use Rattle.problem_set.specs.Mesh.{face, face_pair, faces};
 ghost use Rattle.problem_set.specs.Mesh.{size, refining, mesh_keys, levels_in, is_periodic};
 ghost use Rattle.problem_set.specs.Sound.{IsSize, IsRefining, IsFaces};
 
-use crate::fault::ProblemFault;
-use crate::reader::BlockReader;
 use crate::words::{FaceKind, Faces, Mode};
+use deck_values::{BlockReader, ProblemFault};
 use input_file::Deck;
 use package_fields::Items;
 use std::alloc::Global;
@@ -57,11 +56,7 @@ fn mesh_reader<'a>(alloc: Global, deck: &'a Deck) -> BlockReader<'a>
     ensures deck { result.deck.now ≡ deck.now }
     ensures block { result.block.now ≡ mesh_block }
 {
-    BlockReader {
-        alloc,
-        deck,
-        block: "parthenon/mesh",
-    }
+    BlockReader::new(alloc, deck, "parthenon/mesh")
 }
 
 #[tactic(auto, unfolding(crate::specs::Mesh::size))]
@@ -182,7 +177,7 @@ fn read_derefine_count(mesh: &BlockReader) -> Result<u32, ProblemFault>
     Ok(n as u32)
 }
 
-#[tactic(auto, unfolding(crate::specs::Mesh::pack_size, crate::specs::Rows::signed))]
+#[tactic(auto, unfolding(crate::specs::Mesh::pack_size, deck_values::specs::BlockReader::signed))]
 fn read_pack_size(mesh: &BlockReader) -> Result<Option<u32>, ProblemFault>
     requires { mesh.now.block.now ≡ mesh_block }
     ensures value { Gives result (pack_size mesh.now.deck.now) }

@@ -2,17 +2,17 @@
 
 ghost use Rattle.std.specs.Prelude.{◌≡◌, ◌++◌, [], ◌∷◌, map, length, All, Ok, IfOk, IfErr, OnOk};
 ghost use Rattle.std.specs.List.{flat_map};
-ghost use Rattle.problem_set.specs.declared.fault.ProblemFault.TheVariants.{NoMemory as no_memory};
-ghost use Rattle.problem_set.specs.Reading.{Answers, Gives, each};
-ghost use Rattle.problem_set.specs.FieldBlocks.{field_block, pool_field, lone_field};
+ghost use Rattle.deck_values.specs.declared.fault.ProblemFault.TheVariants.{NoMemory as no_memory};
+ghost use Rattle.deck_values.specs.Reading.{Answers, Gives};
+ghost use Rattle.problem_set.specs.FieldBlocks.{pool_field, dense_field};
 ghost use Rattle.problem_set.specs.Kept.{kept_fields, kept_flags};
-ghost use Rattle.problem_set.specs.Packages.{blocks_of, package_of, moves_of, package_moves, with_added, with_owner, owner_moves, registered, fields};
+ghost use Rattle.problem_set.specs.Packages.{blocks_of, package_of, moves_of, package_moves, with_added, with_package_once, moves_once, registered, fields};
 ghost use Rattle.problem_set.specs.SoundEntries.{IsMoves};
 
-use crate::block_kinds::names_of;
 use crate::entries::Moves;
-use crate::fault::ProblemFault;
-use crate::field_blocks::{FieldBlock, read_field_block};
+use crate::field_blocks::FieldBlock;
+use crate::field_form::FieldForm;
+use deck_values::{ProblemFault, names_of, read_blocks};
 use input_file::Deck;
 use package_fields::{
     Field, FieldFault, Fields, Flag, Flags, Items, Name, Package, Registry, has_flag, is_permitted,
@@ -39,13 +39,13 @@ fn push_block_if(
     alloc: Global,
     list: &mut FieldList,
     block: &FieldBlock,
-    owner: &Name,
+    package_name: &Name,
 ) -> Result<(), ProblemFault>
-    ensures fields { OnOk result (list.new.fields ≡ list.old.fields ++ flat_map kept_fields (blocks_of (block.now ∷ []) owner.now)) }
-    ensures moves { OnOk result (list.new.moves ≡ list.old.moves ++ flat_map moves_of (blocks_of (block.now ∷ []) owner.now)) }
+    ensures fields { OnOk result (list.new.fields ≡ list.old.fields ++ flat_map kept_fields (blocks_of (block.now ∷ []) package_name.now)) }
+    ensures moves { OnOk result (list.new.moves ≡ list.old.moves ++ flat_map moves_of (blocks_of (block.now ∷ []) package_name.now)) }
     ensures fault { IfErr result (λ fault. fault ≡ no_memory) }
 {
-    if block.owner.is(owner.as_str()) {
+    if block.package_name.is(package_name.as_str()) {
         push_block(alloc, list, block)?;
     }
     Ok(())
@@ -61,7 +61,7 @@ fn push_block(alloc: Global, list: &mut FieldList, block: &FieldBlock) -> Result
     if has_flag(block.flags.as_slice(), Flag::Sparse) {
         push_pool(alloc, list, block, &flags)
     } else {
-        let field = lone_field(alloc, &block.name, &flags)?;
+        let field = dense_field(alloc, &block.name, &flags)?;
         push_field(list, field, block.moves)
     }
 }
@@ -130,8 +130,8 @@ fn pool_field(alloc: Global, name: &Name, flags: &Flags, id: u32) -> Result<Fiel
 }
 
 /// The field that is in no pool.
-fn lone_field(alloc: Global, name: &Name, flags: &Flags) -> Result<Field, ProblemFault>
-    ensures value { IfOk result (λ field. field ≡ lone_field name.now flags.now) }
+fn dense_field(alloc: Global, name: &Name, flags: &Flags) -> Result<Field, ProblemFault>
+    ensures value { IfOk result (λ field. field ≡ dense_field name.now flags.now) }
     ensures fault { IfErr result (λ fault. fault ≡ no_memory) }
 {
     let label = Name::copy_of(alloc, name.as_str())?;
@@ -146,9 +146,13 @@ fn lone_field(alloc: Global, name: &Name, flags: &Flags) -> Result<Field, Proble
 }
 
 /// The fields of a package, in deck order.
-fn gather(alloc: Global, blocks: &[FieldBlock], owner: &Name) -> Result<FieldList, ProblemFault>
-    ensures fields { IfOk result (λ m. m.fields ≡ flat_map kept_fields (blocks_of blocks.now owner.now)) }
-    ensures moves { IfOk result (λ m. m.moves ≡ package_moves blocks.now owner.now) }
+fn gather(
+    alloc: Global,
+    blocks: &[FieldBlock],
+    package_name: &Name,
+) -> Result<FieldList, ProblemFault>
+    ensures fields { IfOk result (λ m. m.fields ≡ flat_map kept_fields (blocks_of blocks.now package_name.now)) }
+    ensures moves { IfOk result (λ m. m.moves ≡ package_moves blocks.now package_name.now) }
     ensures fault { IfErr result (λ fault. fault ≡ no_memory) }
 {
     let mut list = FieldList {
@@ -156,24 +160,24 @@ fn gather(alloc: Global, blocks: &[FieldBlock], owner: &Name) -> Result<FieldLis
         moves: Items::new(alloc),
     };
     for block in blocks {
-        push_block_if(alloc, &mut list, block, owner)?;
+        push_block_if(alloc, &mut list, block, package_name)?;
     }
     Ok(list)
 }
 
-/// Adds the package of an owner.
+/// Adds the package of an package_name.
 fn register_package(
     alloc: Global,
     registry: &mut Registry,
     moves: &mut Items<Moves>,
     blocks: &[FieldBlock],
-    owner: &Name,
+    package_name: &Name,
 ) -> Result<(), ProblemFault>
-    ensures registry { Answers (λ _. registry.new) result (with_added registry.old (package_of blocks.now owner.now)) }
-    ensures moves { OnOk result (moves.new ≡ moves.old ++ package_moves blocks.now owner.now) }
+    ensures registry { Answers (λ _. registry.new) result (with_added registry.old (package_of blocks.now package_name.now)) }
+    ensures moves { OnOk result (moves.new ≡ moves.old ++ package_moves blocks.now package_name.now) }
 {
-    let list = gather(alloc, blocks, owner)?;
-    let name = Name::copy_of(alloc, owner.as_str())?;
+    let list = gather(alloc, blocks, package_name)?;
+    let name = Name::copy_of(alloc, package_name.as_str())?;
     let FieldList {
         fields,
         moves: more,
@@ -194,26 +198,26 @@ fn add_package(registry: &mut Registry, declared: Package) -> Result<(), Problem
     }
 }
 
-/// Adds the package of an owner, unless it is there.
-fn register_owner(
+/// Adds the package of an package_name, unless it is there.
+fn register_once(
     alloc: Global,
     registry: &mut Registry,
     moves: &mut Items<Moves>,
     blocks: &[FieldBlock],
-    owner: &Name,
+    package_name: &Name,
 ) -> Result<(), ProblemFault>
-    ensures registry { Answers (λ _. registry.new) result (with_owner blocks.now registry.old owner.now) }
-    ensures moves { OnOk result (moves.new ≡ moves.old ++ owner_moves blocks.now registry.old owner.now) }
+    ensures registry { Answers (λ _. registry.new) result (with_package_once blocks.now registry.old package_name.now) }
+    ensures moves { OnOk result (moves.new ≡ moves.old ++ moves_once blocks.now registry.old package_name.now) }
 {
-    if registry.has_package(owner.as_str()) {
+    if registry.has_package(package_name.as_str()) {
         Ok(())
     } else {
-        register_package(alloc, registry, moves, blocks, owner)
+        register_package(alloc, registry, moves, blocks, package_name)
     }
 }
 
 /// Adds the packages of all field blocks, in the order in which the blocks first name them.
-fn register(alloc: Global, blocks: &[FieldBlock]) -> Result<FieldTable, ProblemFault>
+fn register_all(alloc: Global, blocks: &[FieldBlock]) -> Result<FieldTable, ProblemFault>
     requires { All (λ b. IsMoves b.moves) blocks.now }
     ensures value { Gives result (registered blocks.now) }
     ensures as_many { IfOk result (λ f. length f.moves ≡ length f.fields.fields) }
@@ -222,7 +226,7 @@ fn register(alloc: Global, blocks: &[FieldBlock]) -> Result<FieldTable, ProblemF
     let mut fields = Registry::new(alloc);
     let mut moves = Items::new(alloc);
     for block in blocks {
-        register_owner(alloc, &mut fields, &mut moves, blocks, &block.owner)?;
+        register_once(alloc, &mut fields, &mut moves, blocks, &block.package_name)?;
     }
     Ok(FieldTable { fields, moves })
 }
@@ -235,22 +239,6 @@ pub fn read_fields(alloc: Global, deck: &Deck) -> Result<FieldTable, ProblemFaul
     ensures sound { IfOk result (λ f. All IsMoves f.moves) }
 {
     let names = names_of(alloc, deck, "field")?;
-    let blocks = read_field_blocks(alloc, deck, names.as_slice())?;
-    register(alloc, blocks.as_slice())
-}
-
-/// Reads the field blocks of these names.
-fn read_field_blocks(
-    alloc: Global,
-    deck: &Deck,
-    names: &[Name],
-) -> Result<Items<FieldBlock>, ProblemFault>
-    ensures value { Gives result (each (field_block deck.now) names.now) }
-    ensures sound { IfOk result (All (λ b. IsMoves b.moves)) }
-{
-    let mut blocks = Items::new(alloc);
-    for name in names {
-        blocks.push(read_field_block(alloc, deck, name)?)?;
-    }
-    Ok(blocks)
+    let blocks = read_blocks(alloc, deck, names.as_slice(), &FieldForm)?;
+    register_all(alloc, blocks.as_slice())
 }

@@ -63,7 +63,7 @@ pub struct Problem {
     pub ghost refining_sound: { IsRefining (record { mode = mode; levels = levels; derefine_count = derefine_count; pack_size = pack_size }) },
     pub ghost faces_sound: { IsFaces faces },
     pub ghost grid_sound: { IsGrid size cells shape },
-    pub ghost stepping_sound: { IsStepping (record { nlim = nlim; sparsity = record { alloc_threshold = alloc_threshold; dealloc_threshold = dealloc_threshold; dealloc_count = dealloc_count }; pace = record { denominator = denominator; nstages = nstages; refine_every = refine_every; dump_every = dump_every } }) },
+    pub ghost stepping_sound: { IsStepping (record { nlim = nlim; sparsity = record { alloc_threshold = alloc_threshold; dealloc_threshold = dealloc_threshold; dealloc_count = dealloc_count }; cycle = record { denominator = denominator; nstages = nstages; refine_every = refine_every; dump_every = dump_every } }) },
     pub ghost fields_sound: { AreFields fields moves } by { Prim.hlevel props },
     pub ghost entries_sound: { AreEntries size levels (length moves) statics boxes reactions criteria },
     pub ghost rates_fit: { HaveFittingRates shape.dims levels denominator fields.fields moves },

@@ -2,26 +2,24 @@
 
 ghost use Rattle.std.specs.Prelude.{◌≡◌, ◌≤◌, ◌-◌, ◌*◌, OnOk};
 ghost use Rattle.std.specs.List.{zip};
-ghost use Rattle.problem_set.specs.Reading.{Answers, Gives};
+ghost use Rattle.deck_values.specs.Reading.{Answers, Gives};
 ghost use Rattle.problem_set.specs.Fitting.{rates_fit};
 ghost use Rattle.problem_set.specs.SoundEntries.{HaveFittingRates, greatest_total};
 ghost use Rattle.problem_set.specs.Problems.{bound_of, fitting, problem};
-ghost use Rattle.problem_set.specs.SettingsOf.{parts_settings, settings_of};
+ghost use Rattle.problem_set.specs.SettingsOf.{sections_settings, settings_of};
 
-use crate::contents::{Contents, Entries};
-use crate::deck_parts::Parts;
-use crate::fault::ProblemFault;
+use crate::deck_sections::DeckSections;
 use crate::fitting::{boxes_total, stage_inflow};
 use crate::grid::Grid;
 use crate::mesh::Mesh;
+use crate::mesh_part::GREATEST_TOTAL;
 use crate::packages::FieldTable;
 use crate::problem::Problem;
 use crate::rates::check_rates;
+use crate::repeated_blocks::{CountedBlocks, RepeatedBlocks};
+use deck_values::ProblemFault;
 use input_file::Deck;
 use std::alloc::Global;
-
-/// The sum of all totals is at most this.
-const GREATEST_TOTAL: u128 = 4_611_686_018_427_387_903;
 
 /// The problem that a deck gives.
 ///
@@ -34,21 +32,22 @@ const GREATEST_TOTAL: u128 = 4_611_686_018_427_387_903;
 pub fn read_problem(alloc: Global, deck: &Deck) -> Result<Problem, ProblemFault>
     ensures { Answers settings_of result (problem deck.now) }
 {
-    let parts = Parts::read(alloc, deck)?;
-    check_fitting(alloc, &parts)?;
-    Ok(problem_of(parts))
+    let sections = DeckSections::read(alloc, deck)?;
+    check_fitting(alloc, &sections)?;
+    Ok(problem_of(sections))
 }
 
 /// Whether the rates and then the bound fit.
 #[tactic(auto, unfolding(crate::specs::Problems::fitting))]
-fn check_fitting(alloc: Global, parts: &Parts) -> Result<(), ProblemFault>
-    ensures value { Gives result (fitting (parts_settings parts.now)) }
-    ensures rates { OnOk result (HaveFittingRates parts.now.grid.shape.dims parts.now.mesh.refining.levels parts.now.stepping.pace.denominator parts.now.contents.field_table.fields.fields parts.now.contents.field_table.moves) }
-    ensures totals { OnOk result (bound_of (parts_settings parts.now) ≤ greatest_total) }
+fn check_fitting(alloc: Global, sections: &DeckSections) -> Result<(), ProblemFault>
+    ensures value { Gives result (fitting (sections_settings sections.now)) }
+    ensures rates { OnOk result (HaveFittingRates sections.now.grid.shape.dims sections.now.mesh.refining.levels sections.now.stepping.cycle.denominator sections.now.repeated.field_table.fields.fields sections.now.repeated.field_table.moves) }
+    ensures totals { OnOk result (bound_of (sections_settings sections.now) ≤ greatest_total) }
 {
-    check_part_rates(alloc, parts)?;
-    let total = bound_of(parts);
-    if total <= GREATEST_TOTAL {
+    check_section_rates(alloc, sections)?;
+    let total = bound_of(sections);
+    let most = u128::from(GREATEST_TOTAL);
+    if total <= most {
         Ok(())
     } else {
         Err(ProblemFault::Bound { total })
@@ -56,72 +55,72 @@ fn check_fitting(alloc: Global, parts: &Parts) -> Result<(), ProblemFault>
 }
 
 /// Whether the rates fit.
-fn check_part_rates(alloc: Global, parts: &Parts) -> Result<(), ProblemFault>
-    ensures { Gives result (rates_fit parts.now.grid.shape.dims (parts.now.mesh.refining.levels - 1) parts.now.stepping.pace.denominator (zip parts.now.contents.field_table.fields.fields parts.now.contents.field_table.moves)) }
+fn check_section_rates(alloc: Global, sections: &DeckSections) -> Result<(), ProblemFault>
+    ensures { Gives result (rates_fit sections.now.grid.shape.dims (sections.now.mesh.refining.levels - 1) sections.now.stepping.cycle.denominator (zip sections.now.repeated.field_table.fields.fields sections.now.repeated.field_table.moves)) }
 {
     check_rates(
         alloc,
-        parts.grid.shape.dims,
-        parts.mesh.refining.levels - 1,
-        parts.stepping.pace.denominator,
-        parts.contents.field_table.fields.fields(),
-        parts.contents.field_table.moves.as_slice(),
+        sections.grid.shape.dims,
+        sections.mesh.refining.levels - 1,
+        sections.stepping.cycle.denominator,
+        sections.repeated.field_table.fields.fields(),
+        sections.repeated.field_table.moves.as_slice(),
     )
 }
 
 /// The opening sum of all totals, and all that may come in during the run.
-fn bound_of(parts: &Parts) -> u128
-    ensures { result ≡ bound_of (parts_settings parts.now) }
+fn bound_of(sections: &DeckSections) -> u128
+    ensures { result ≡ bound_of (sections_settings sections.now) }
 {
-    let size = parts.mesh.size;
-    let fields = &parts.contents.field_table.fields;
-    let moves = parts.contents.field_table.moves.as_slice();
+    let size = sections.mesh.size;
+    let fields = &sections.repeated.field_table.fields;
+    let moves = sections.repeated.field_table.moves.as_slice();
     let count = fields.count();
     let opening = boxes_total(
         size,
-        parts.contents.entries.boxes.as_slice(),
+        sections.repeated.counted.boxes.as_slice(),
         count as usize,
     );
     let inflow = stage_inflow(
-        parts.grid.shape.dims,
+        sections.grid.shape.dims,
         size,
-        &parts.mesh.faces,
+        &sections.mesh.faces,
         fields.fields(),
         moves,
     );
-    let stages = u128::from(parts.stepping.nlim) * u128::from(parts.stepping.pace.nstages);
+    let stages = u128::from(sections.stepping.nlim) * u128::from(sections.stepping.cycle.nstages);
     opening + inflow * stages
 }
 
-/// The problem of parts that fit.
-fn problem_of(parts: Parts) -> Problem
-    requires rates { HaveFittingRates parts.grid.shape.dims parts.mesh.refining.levels parts.stepping.pace.denominator parts.contents.field_table.fields.fields parts.contents.field_table.moves }
-    requires totals { bound_of (parts_settings parts) ≤ greatest_total }
-    ensures { settings_of result ≡ parts_settings parts }
+/// The problem of sections that fit.
+fn problem_of(sections: DeckSections) -> Problem
+    requires rates { HaveFittingRates sections.grid.shape.dims sections.mesh.refining.levels sections.stepping.cycle.denominator sections.repeated.field_table.fields.fields sections.repeated.field_table.moves }
+    requires totals { bound_of (sections_settings sections) ≤ greatest_total }
+    ensures { settings_of result ≡ sections_settings sections }
 {
-    let Parts {
+    let DeckSections {
         mesh,
         grid,
         stepping,
-        contents,
-    } = parts;
+        repeated,
+    } = sections;
     let Mesh {
         size,
         refining,
         faces,
     } = mesh;
     let Grid { shape, cells } = grid;
-    let Contents {
+    let RepeatedBlocks {
         field_table,
-        entries,
-    } = contents;
+        counted,
+    } = repeated;
     let FieldTable { fields, moves } = field_table;
-    let Entries {
+    let CountedBlocks {
         statics,
         boxes,
         reactions,
         criteria,
-    } = entries;
+    } = counted;
     // Counting tells the facts of a registry: there are at most 256 fields.
     let _count = fields.count();
     Problem {
@@ -137,10 +136,10 @@ fn problem_of(parts: Parts) -> Problem
         alloc_threshold: stepping.sparsity.alloc_threshold,
         dealloc_threshold: stepping.sparsity.dealloc_threshold,
         dealloc_count: stepping.sparsity.dealloc_count,
-        denominator: stepping.pace.denominator,
-        nstages: stepping.pace.nstages,
-        refine_every: stepping.pace.refine_every,
-        dump_every: stepping.pace.dump_every,
+        denominator: stepping.cycle.denominator,
+        nstages: stepping.cycle.nstages,
+        refine_every: stepping.cycle.refine_every,
+        dump_every: stepping.cycle.dump_every,
         fields,
         moves,
         statics,

@@ -3,20 +3,20 @@
 ghost use Rattle.std.specs.Prelude.{◌≡◌, ◌≤◌, ◌<◌, ◌⊎◌, true, false, Some, OnOk, IfErr, length, slice_get, All, unsigned_abs};
 ghost use Rattle.std.specs.List.{zip};
 ghost use Rattle.mesh_num.specs.Rate.{rate as rate_of};
-ghost use Rattle.problem_set.specs.Reading.{Gives};
-ghost use Rattle.problem_set.specs.declared.fault.ProblemFault.TheVariants.{NoMemory as no_memory};
+ghost use Rattle.deck_values.specs.Reading.{Gives};
+ghost use Rattle.deck_values.specs.declared.fault.ProblemFault.TheVariants.{NoMemory as no_memory};
 ghost use Rattle.problem_set.specs.Rates.{upwards, downwards, velocity, right_rate, left_rate, rate_sum};
 ghost use Rattle.problem_set.specs.Fitting.{sum_fits, rates_fit};
 ghost use Rattle.problem_set.specs.SoundEntries.{IsMoves};
 
 use crate::entries::Moves;
-use crate::fault::ProblemFault;
+use deck_values::ProblemFault;
 use mesh_num::rate;
 use package_fields::{Field, Flag, Name, has_flag};
 use std::alloc::Global;
 
 /// The rates at which a field passes a face, over the denominator.
-#[derive(Clone, Copy, Debug)]
+#[derive(Clone, Copy)]
 pub struct Rates {
     /// Upwards along the axis.
     pub right: u64,

@@ -1,17 +1,16 @@
 //! The keys of time, of sparse fields and of the whole numbers.
 
 ghost use Rattle.std.specs.Prelude.{◌≡◌, ◌≤◌, IfOk};
-ghost use Rattle.problem_set.specs.Reading.{Gives};
+ghost use Rattle.deck_values.specs.Reading.{Gives};
 ghost use Rattle.problem_set.specs.Stepping.{time as time_block, sparse as sparse_block, whole as whole_block};
 ghost use Rattle.problem_set.specs.Stepping.{nlim, alloc_threshold, dealloc_threshold, dealloc_count};
 ghost use Rattle.problem_set.specs.Stepping.{denominator, nstages, refine_every, dump_every};
-ghost use Rattle.problem_set.specs.Stepping.{sparsity, pace, stepping};
-ghost use Rattle.problem_set.specs.Sound.{IsSparsity, IsPace, IsStepping};
+ghost use Rattle.problem_set.specs.Stepping.{sparsity, cycle_settings, stepping};
+ghost use Rattle.problem_set.specs.Sound.{IsSparsity, IsCycleSettings, IsStepping};
 ghost use Rattle.problem_set.specs.SoundEntries.{greatest_total};
 
-use crate::fault::ProblemFault;
 use crate::mesh_part::GREATEST_TOTAL;
-use crate::reader::BlockReader;
+use deck_values::{BlockReader, ProblemFault};
 use input_file::Deck;
 use std::alloc::Global;
 
@@ -25,7 +24,7 @@ pub struct Sparsity {
 
 /// How a cycle goes on, and after which cycles more is done.
 #[derive(Clone, Copy)]
-pub struct Pace {
+pub struct CycleSettings {
     pub denominator: u64,
     pub nstages: u32,
     pub refine_every: u32,
@@ -37,7 +36,7 @@ pub struct Pace {
 pub struct Stepping {
     pub nlim: u32,
     pub sparsity: Sparsity,
-    pub pace: Pace,
+    pub cycle: CycleSettings,
 }
 
 /// Reads the keys of the three blocks in order.
@@ -51,11 +50,11 @@ pub fn read_stepping(alloc: Global, deck: &Deck) -> Result<Stepping, ProblemFaul
     let whole = whole_reader(alloc, deck);
     let nlim = read_nlim(&time)?;
     let sparsity = read_sparsity(&sparse)?;
-    let pace = read_pace(&whole)?;
+    let cycle = read_cycle_settings(&whole)?;
     Ok(Stepping {
         nlim,
         sparsity,
-        pace,
+        cycle,
     })
 }
 
@@ -75,17 +74,17 @@ fn read_sparsity(sparse: &BlockReader) -> Result<Sparsity, ProblemFault>
     })
 }
 
-#[tactic(auto, unfolding(crate::specs::Stepping::pace))]
-fn read_pace(whole: &BlockReader) -> Result<Pace, ProblemFault>
+#[tactic(auto, unfolding(crate::specs::Stepping::cycle_settings))]
+fn read_cycle_settings(whole: &BlockReader) -> Result<CycleSettings, ProblemFault>
     requires { whole.now.block.now ≡ whole_block }
-    ensures value { Gives result (pace whole.now.deck.now) }
-    ensures sound { IfOk result IsPace }
+    ensures value { Gives result (cycle_settings whole.now.deck.now) }
+    ensures sound { IfOk result IsCycleSettings }
 {
     let denominator = read_denominator(whole)?;
     let nstages = read_nstages(whole)?;
     let refine_every = read_refine_every(whole)?;
     let dump_every = read_dump_every(whole)?;
-    Ok(Pace {
+    Ok(CycleSettings {
         denominator,
         nstages,
         refine_every,
@@ -98,11 +97,7 @@ fn time_reader<'a>(alloc: Global, deck: &'a Deck) -> BlockReader<'a>
     ensures deck { result.deck.now ≡ deck.now }
     ensures block { result.block.now ≡ time_block }
 {
-    BlockReader {
-        alloc,
-        deck,
-        block: "parthenon/time",
-    }
+    BlockReader::new(alloc, deck, "parthenon/time")
 }
 
 #[tactic(auto, unfolding(crate::specs::Stepping::sparse))]
@@ -110,11 +105,7 @@ fn sparse_reader<'a>(alloc: Global, deck: &'a Deck) -> BlockReader<'a>
     ensures deck { result.deck.now ≡ deck.now }
     ensures block { result.block.now ≡ sparse_block }
 {
-    BlockReader {
-        alloc,
-        deck,
-        block: "parthenon/sparse",
-    }
+    BlockReader::new(alloc, deck, "parthenon/sparse")
 }
 
 #[tactic(auto, unfolding(crate::specs::Stepping::whole))]
@@ -122,11 +113,7 @@ fn whole_reader<'a>(alloc: Global, deck: &'a Deck) -> BlockReader<'a>
     ensures deck { result.deck.now ≡ deck.now }
     ensures block { result.block.now ≡ whole_block }
 {
-    BlockReader {
-        alloc,
-        deck,
-        block: "whole",
-    }
+    BlockReader::new(alloc, deck, "whole")
 }
 
 #[tactic(auto, unfolding(crate::specs::Stepping::nlim))]

@@ -1,10 +1,8 @@
 -- Flows by field in the course of the reactions of a cell.
 use Rattle.std.proofs.Common.{◌≡◌, ◌∙◌, sym, ap, subst, refl, ℕ, ◌+◌, ◌*◌, ◌<◌, ◌≤◌, ◌^◌, List, length, take, replicate, slice_index, slice_index_or, sum, arith}
 use Rattle.std.specs.Prelude.{All}
-use Rattle.std.specs.List.{enumerate_from}
-use Rattle.std.proofs.lemmas.List.{ext_get_or, get_or_default, get_or-map, length-map, length-take, take_all}
+use Rattle.std.proofs.lemmas.List.{ext_get_or, get_or_default, length-take, take_all}
 use Rattle.std.proofs.lemmas.List.Sums.{fold_more}
-use Rattle.std.proofs.lemmas.List.FromFn.{length-enumerate_from, get_or-enumerate_from}
 use Rattle.std.proofs.lemmas.List.Elements.{All-from_get_or, All-get_or, All-take}
 use Rattle.package_fields.specs.declared.flow.Flow.{Flow}
 use Rattle.package_fields.specs.Flow.{IsBelow, no_flow}
@@ -15,22 +13,7 @@ use Rattle.react_kernel.specs.Code.{CanReact}
 use Rattle.react_kernel.specs.Steps.{Moves, only_at}
 use Rattle.react_kernel.specs.ReactionLists.{at_added}
 use Rattle.react_kernel.specs.ReactionLaws.{after_reactions, few_times, zero_at}
-
-abbrev at_none : ℕ × Flow
-at_none = (0, no_flow)
-
-abbrev parts_of : Reacted → ℕ × Flow → Flow
-parts_of r p = with_parts p.1 (slice_index r.made p.0) (slice_index r.used p.0)
-
-pub length_reacted : (flows : List Flow) (r : Reacted) → length (with_reacted flows r) ≡ length flows
-length_reacted flows r = length-map (enumerate_from 0 flows) (parts_of r) ∙ length-enumerate_from 0 flows
-
-pub at_reacted : (flows : List Flow) (r : Reacted) (f : ℕ) → f < length flows
-    → slice_index_or (with_reacted flows r) f no_flow ≡ with_parts (slice_index_or flows f no_flow) (slice_index r.made f) (slice_index r.used f)
-at_reacted flows r f h =
-    get_or-map (parts_of r) (enumerate_from 0 flows) f at_none no_flow (let n : length (enumerate_from 0 flows) ≡ length flows = length-enumerate_from 0 flows in omega arith)
-    ∙ (ap (λ (p : ℕ × Flow). parts_of r p) (get_or-enumerate_from 0 flows f at_none h)
-    ∙ ap (λ (k : ℕ). with_parts (slice_index_or flows f no_flow) (slice_index r.made k) (slice_index r.used k)) (let e : 0 + f ≡ f = omega arith in e))
+use Rattle.react_kernel.proofs.Gains.{at_gained, length_gained}
 
 parts_same : (x : Flow) (m n u v : ℕ) → m ≡ n → u ≡ v → with_parts x m u ≡ with_parts x n v
 parts_same x m n u v e d = ap (λ (k : ℕ). with_parts x k u) e ∙ ap (λ (k : ℕ). with_parts x n k) d
@@ -47,10 +30,10 @@ parts_none x m u e d = flow_same x (x.made + m) x.made (x.used + u) x.used (omeg
 -- before any reaction
 pub reacted_none : (flows : List Flow) (cell : List ℕ) → length cell ≡ length flows → with_reacted flows (before_reactions cell) ≡ flows
 reacted_none flows cell many =
-    ext_get_or no_flow (with_reacted flows (before_reactions cell)) flows (length_reacted flows (before_reactions cell)) (λ f h.
-    let n : length (with_reacted flows (before_reactions cell)) ≡ length flows = length_reacted flows (before_reactions cell) in
+    ext_get_or no_flow (with_reacted flows (before_reactions cell)) flows (length_gained flows (before_reactions cell)) (λ f h.
+    let n : length (with_reacted flows (before_reactions cell)) ≡ length flows = length_gained flows (before_reactions cell) in
     let z : slice_index (replicate (length cell) 0) f ≡ 0 = zero_at (length cell) f (omega arith) in
-    at_reacted flows (before_reactions cell) f (omega arith)
+    at_gained flows (before_reactions cell) f (omega arith)
     ∙ parts_none (slice_index_or flows f no_flow) (slice_index (replicate (length cell) 0) f) (slice_index (replicate (length cell) 0) f) z z)
 
 -- one reaction more
@@ -59,16 +42,16 @@ pub reacted_more : (flows now new : List Flow) (r : Reacted) (x : Reaction) → 
 reacted_more flows now new r x made used from to is moves =
     let m = moved_by x r.totals in
     let after = after_reaction r x in
-    let many : length now ≡ length flows = ap (λ (fs : List Flow). length fs) is ∙ length_reacted flows r in
+    let many : length now ≡ length flows = ap (λ (fs : List Flow). length fs) is ∙ length_gained flows r in
     let all : length new ≡ length flows = moves.as_many ∙ many in
-    ext_get_or no_flow new (with_reacted flows after) (all ∙ sym (length_reacted flows after)) (λ f h.
+    ext_get_or no_flow new (with_reacted flows after) (all ∙ sym (length_gained flows after)) (λ f h.
     let old = slice_index_or flows f no_flow in
     moves.each f (omega arith)
-    ∙ (ap (λ (flow : Flow). with_parts flow (only_at x.to m f) (only_at x.from m f)) (ap (λ (fs : List Flow). slice_index_or fs f no_flow) is ∙ at_reacted flows r f (omega arith))
+    ∙ (ap (λ (flow : Flow). with_parts flow (only_at x.to m f) (only_at x.from m f)) (ap (λ (fs : List Flow). slice_index_or fs f no_flow) is ∙ at_gained flows r f (omega arith))
     ∙ (parts_twice old (slice_index r.made f) (slice_index r.used f) (only_at x.to m f) (only_at x.from m f)
     ∙ (parts_same old (slice_index r.made f + only_at x.to m f) (slice_index after.made f) (slice_index r.used f + only_at x.from m f) (slice_index after.used f)
     (sym (at_added r.made x.to m f (omega arith))) (sym (at_added r.used x.from m f (omega arith)))
-    ∙ sym (at_reacted flows after f (omega arith))))))
+    ∙ sym (at_gained flows after f (omega arith))))))
 
 -- the cell and its flows after some of the reactions
 pub record Applied (rs : List Reaction) (cell : List ℕ) (flows : List Flow) (k : ℕ) (cell_now : List ℕ) (flows_now : List Flow) : Type 0 where
@@ -141,8 +124,8 @@ applied_small fields rs cell flows k cell_now flows_now many as_many can few sma
     let n : length (take k rs) ≤ 256 = omega (arith, length-take k rs) in
     subst (λ (fs : List Flow). All (IsBelow (2 ^ 100)) fs) (sym had.flows_are)
     (All-from_get_or (IsBelow (2 ^ 100)) (with_reacted flows r) no_flow (λ f h.
-    let inside : f < length flows = (let e : length (with_reacted flows r) ≡ length flows = length_reacted flows r in omega arith) in
-    subst (λ (flow : Flow). IsBelow (2 ^ 100) flow) (sym (at_reacted flows r f inside))
+    let inside : f < length flows = (let e : length (with_reacted flows r) ≡ length flows = length_gained flows r in omega arith) in
+    subst (λ (flow : Flow). IsBelow (2 ^ 100) flow) (sym (at_gained flows r f inside))
     (small_parts (slice_index_or flows f no_flow) (slice_index r.made f) (slice_index r.used f) (All-get_or (IsBelow (2 ^ 99)) flows f no_flow inside below)
     (small_times (length (take k rs)) (sum cell) (slice_index r.made f) n small (a.made_most f (omega arith)))
     (small_times (length (take k rs)) (sum cell) (slice_index r.used f) n small (a.used_most f (omega arith))))))

@@ -1,2 +1,10 @@
 pub mod Flows
 pub mod Moved
+pub mod Buffers
+pub mod Inserted
+pub mod Cells
+pub mod Gains
+pub mod Scattered
+pub mod Rows
+pub mod Reached
+pub mod CellSteps

@@ -13,7 +13,7 @@ use std::alloc::Global;
 
 /// The reactions of a problem, applied in each cell in their order. Each moves the portion
 /// `num / den` of what is there of one field to another.
-#[derive(Debug, Drop)]
+#[derive(Drop)]
 pub struct ReactKernel {
     reactions: Vec<Reaction>,
     fields: u32,

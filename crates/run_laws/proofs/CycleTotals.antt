@@ -52,7 +52,7 @@ rates_fit p f s is inside =
     let at = zip_at p.fields.fields p.moves f _ _ inside (omega (arith, same, inside)) in
     let all = All-get_or P (zip p.fields.fields p.moves) f _ (omega (arith, zip_length p.fields.fields p.moves same, inside)) p.rates_fit in
     subst (λ (x : Shape). HasFittingRates (settings_of p) f x.dims (p.levels - 1)) (sym is)
-    (record { positive = p.stepping_sound.pace_sound.least_denominator; fits = subst P at all })
+    (record { positive = p.stepping_sound.cycle_sound.least_denominator; fits = subst P at all })
 
 -- what is dropped in a stage, after the reaction, and at the check
 abbrev pub stage_drop : Settings → State → ℕ → ℕ → ℕ

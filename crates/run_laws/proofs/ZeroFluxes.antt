@@ -124,7 +124,7 @@ stage_nothing p m f c sites threshold within empty none = staged_nothing q m f c
     across axis = comes_across q m f l axis false (behind m.shape (is_inner m) l axis false) || comes_across q m f l axis true (behind m.shape (is_inner m) l axis true)
 
     positive : 1 ≤ q.denominator
-    positive = p.stepping_sound.pace_sound.least_denominator
+    positive = p.stepping_sound.cycle_sound.least_denominator
 
     sides : has_ghosts q f ≡ true → (axis : ℕ) → axis < m.shape.dims → (face_pair q m f c axis false).right + (face_pair q m f c axis true).left ≡ 0
     sides ghosts axis used =

@@ -1,21 +1,20 @@
 -- Each kind of atomic step keeps the rule of a yard's table.
-use Rattle.std.proofs.Common.{◌≡◌, ◌≢◌, ℕ, suc, zero, ◌+◌, ◌<◌, ◌≤◌, ◌⊎◌, eqb, Bool, true, false, List, [], ◌∷◌, ◌++◌, map, length, drop, replicate, get_or, set, sym, refl, ap, ◌∙◌, subst, inl, inr, ⊎_elim, arith, length-append, length-set, get_or-set_same, get_or-set_other, Option, Some, None}
+use Rattle.std.proofs.Common.{◌≡◌, ◌≢◌, ℕ, suc, ◌+◌, ◌<◌, ◌≤◌, ◌⊎◌, eqb, true, false, List, [], ◌∷◌, ◌++◌, length, get_or, set, sym, refl, ap, ◌∙◌, subst, inl, inr, ⊎_elim, arith, length-append, length-set, get_or-set_same, get_or-set_other, Option, Some}
 use Rattle.std.proofs.lemmas.List.{append-nil, set-get_or}
-use Rattle.std.proofs.lemmas.List.Elements.{All-cons, All-nil, All-append, All-weaker}
-use Rattle.std.specs.List.{All, Any}
+use Rattle.std.proofs.lemmas.List.Elements.{All-cons, All-append, All-weaker}
+use Rattle.std.specs.List.{All}
 use mathlib.Core.Logic.{dite}
 use mathlib.Core.Option as maybe
-use mathlib.Core.Option.{none, some, some-injective, some-ne-none}
+use mathlib.Core.Option.{none, some}
 use native.Mathlib.Decide.{ℕ_discrete}
 use lib.ListN.{get_elem?}
 use prog.Atomic.{either}
-use Rattle.atomic_table.specs.Table.{State, Me, step, keeps, takes, gives, stepped, Allows, Splits, Joins, opening, Final, Seen}
+use Rattle.atomic_table.specs.Table.{State, Me, step, keeps, takes, gives, stepped, Allows, Splits, Joins}
 use Rattle.atomic_table.proofs.Lists.{at_set, set_here, set_else, set_again, at_longer, exchanged}
-use Rattle.turn_yard.specs.History.{Entry, bears, entries_of, StartsWith, added_to, AddsAtMostOne, NoneFalls}
+use Rattle.turn_yard.specs.History.{Entry, bears, entries_of, added_to, AddsAtMostOne, NoneFalls}
 use Rattle.turn_yard.specs.Tells.{Tells}
-use Rattle.turn_yard.specs.Yard.{IsOfSeat}
-use Rattle.turn_yard.specs.Inside.{IsNumbered, IsLast}
-use Rattle.turn_yard.specs.Rule.{keeper, marks_in, Knows, IsSpent, IsKeeper, OnlyHolds, IsFree, IsHeld, IsBorne, IsOrderly}
+use Rattle.turn_yard.specs.Inside.{IsNumbered}
+use Rattle.turn_yard.specs.Rule.{marks_in, Knows, IsSpent, IsKeeper, OnlyHolds, IsFree, IsHeld, IsBorne, IsOrderly}
 use Rattle.turn_yard.specs.Steps.{holding, noting, given, Took, took, raised, gave, looked, with_seat, new_seat, with_returned, spent}
 use Rattle.turn_yard.specs.declared.view.Known.{Known}
 use Rattle.turn_yard.specs.declared.view.View.{View}
@@ -442,58 +441,6 @@ module _ {T : Type 0} (t : Tells T) where
     pub returns_seat : Joins Rule 0 v other w (with_returned v w) spent
     returns_seat s r at apart there = returns_at s r at apart there
 
-  -- ---- the yard is made
-  pub opens : (value : T) (parts : ℕ) (words : List ℕ) → words ≡ 0 ∷ replicate parts 0 → t.entries value ≡ [] → t.marks value ≡ replicate parts 0
-      → Rule (opening words (Some value ∷ []) (keeper (t.origin value) (t.marks value)))
-  opens value parts words is none_yet zeros = let P : List ℕ → Type 0 = λ ws. Rule (opening ws (Some value ∷ []) (keeper (t.origin value) (t.marks value))) in subst P (sym is) (record {
-    origin = t.origin value;
-    history = [];
-    some_word = omega arith;
-    own_view = keeper (t.origin value) (t.marks value);
-    own_at = refl;
-    own = record { not_used = refl; origin_is = refl; noted = none_falls_same _ _ zeros; made = refl; known = All-nil _; gone = All-nil _ };
-    place = λ id v at used. absurd (nobody id v at used);
-    known = λ id v at used. absurd (nobody id v at used);
-    borne = All-nil _;
-    turn = inl (record { value = value; turn = refl; home = refl; entries = none_yet; origin_is = refl; marks = zeros; holder = λ id v at used ne. absurd (nobody id v at used) });
-  }) where
-    nobody : (id : ℕ) (v : View) → get_elem? (keeper (t.origin value) (t.marks value) ∷ []) id ≡ some v → v.in_use ≡ true → ⊥
-    nobody zero v at used = true≢false (sym used ∙ ap (λ (x : View). x.in_use) (sym (some-injective _ _ at)))
-    nobody (suc id) v at used = some-ne-none v (sym at)
-
-  -- ---- the yard is closed
-  module _ (v : View) (all : (n : ℕ) → n < v.made → Any (λ (k : Known). k.number ≡ n) v.returned) where
-    not_held : (s : St) (r : Rule s) → IsKeeper r.origin r.history (marks_in s.words) s.views v → IsHeld r.history s → ⊥
-    not_held s r o h =
-        let p = r.place h.id h.view h.here h.in_use in
-        let l = at_below s.views h.id h.view h.here in
-        let m = o.made in
-        let (i, k, inside, is, number) = all h.view.known.number (omega arith) in
-        let g = o.gone i k inside in
-        let same : suc (get_or v.returned i k).number ≡ h.id = ap (λ (x : Known). suc x.number) is ∙ (ap suc number ∙ p) in
-        true≢false (sym h.in_use ∙ (ap (λ (x : View). x.in_use) (one_at s.views h.id h.view g.0 h.here (ap (get_elem? s.views) (sym same) ∙ g.1)) ∙ g.2))
-
-    -- what is at home at the end is a value, with all that returned seats knew
-    pub closes : (ws : List ℕ) (xs : List (Option T)) (slot : Option T) → Final (Seen Rule 0 v) ws xs → get_elem? xs 0 ≡ some slot → (value : T) × (slot ≡ Some value) × IsLast t v value
-    closes ws xs slot (s, (r, at), _, _, values) there =
-        let o : IsKeeper r.origin r.history (marks_in s.words) s.views v = subst (IsKeeper r.origin r.history (marks_in s.words) s.views) (one_at s.views 0 r.own_view v r.own_at at) r.own in
-        ⊎_elim
-        (λ f. (
-          f.value,
-          one_at xs 0 slot (Some f.value) there (values 0 (Some f.value) (ap (λ (h : Homes). get_elem? h 0) f.home)),
-          record {
-            origin = f.origin_is ∙ sym o.origin_is;
-            known = All-weaker (Knows r.origin r.history (marks_in s.words)) (Knows v.known.origin (t.entries f.value) (t.marks f.value)) (λ k n. record {
-              origin_is = n.origin_is ∙ sym o.origin_is;
-              seen = (n.seen.0, f.entries ∙ n.seen.1);
-              own = ap (entries_of k.number) f.entries ∙ n.own;
-              noted = none_falls_on k.noted (marks_in s.words) (t.marks f.value) n.noted (none_falls_same _ _ (sym f.marks));
-            }) v.returned o.known;
-            made = subst (All (IsOfSeat v.made)) (sym f.entries) (All-weaker (IsBorne s.views) (IsOfSeat v.made) (λ e b. let l = b.1 in let m = o.made in (b.0, omega arith, b.2)) r.history r.borne);
-          },
-        ))
-        (λ h. absurd (not_held s r o h)) r.turn
-
   -- ---- the steps of a seat of which more is known than its two parts
   pub numbered_takes : (slots id number mine : ℕ) (m : Sat) → mine ≡ number + 1 → IsNumbered m number false [] → Allows Rule slots id m 0 (λ n. either (eqb n 0) mine n) (took t (step slots 0 0 mine none) m)
   numbered_takes slots id number mine m e q = let P : ℕ × List (ℕ × Option T) → Type 0 = λ x. Allows Rule slots id (m.0, x.1) 0 (λ n. either (eqb n 0) x.0 n) (took t (step slots 0 0 x.0 none) (m.0, x.1)) in
@@ -509,12 +456,3 @@ module _ {T : Type 0} (t : Tells T) where
 
   pub first_splits : (id : ℕ) (v : View) → id ≡ 0 → v.in_use ≡ false → Splits Rule id v (with_seat v) (new_seat v)
   first_splits id v e not_used = let P : ℕ → Type 0 = λ k. Splits Rule k v (with_seat v) (new_seat v) in subst P (sym e) (makes_seat v not_used)
-
-  pub first_closes : (id : ℕ) (v : View) (ws : List ℕ) (xs : List (Option T)) (slot : Option T) → id ≡ 0 → ((n : ℕ) → n < v.made → Any (λ (k : Known). k.number ≡ n) v.returned) → Final (Seen Rule id v) ws xs
-      → get_elem? xs 0 ≡ some slot → (value : T) × (slot ≡ Some value) × IsLast t v value
-  first_closes id v ws xs slot e all final there = let P : ℕ → Type 0 = λ k. Final (Seen Rule k v) ws xs in closes v all ws xs slot (subst P e final) there
-
-  pub made_opens : (first value : T) (parts : ℕ) (ws : List ℕ) (xs : List (Option T)) → ws ≡ 0 ∷ replicate parts 0 → xs ≡ Some value ∷ [] → first ≡ value → t.entries value ≡ [] → t.marks value ≡ replicate parts 0
-      → Rule (opening ws xs (keeper (t.origin first) (t.marks first)))
-  made_opens first value parts ws xs words_are slot_is key none_yet zeros = let P : List (Option T) × T → Type 0 = λ x. Rule (opening ws x.0 (keeper (t.origin x.1) (t.marks x.1))) in
-      subst P (λ i. (sym slot_is i, sym key i)) (opens value parts ws words_are none_yet zeros)

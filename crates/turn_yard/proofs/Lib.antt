@@ -1,4 +1,5 @@
 mod Closing
-mod Histories
+pub mod Histories
 mod Keeps
+mod Opening
 pub mod Sharing

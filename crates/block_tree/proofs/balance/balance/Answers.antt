@@ -1,4 +1,4 @@
-use Rattle.std.proofs.Common.{arith, inl, inr, sym, ◌≤◌}
+use Rattle.std.proofs.Common.{arith, inl, inr, sym}
 use Rattle.block_tree.specs.Tree.{is_listed}
 use Rattle.block_tree.proofs.Worklist.{grown_answer, grown_turn, past_end, read_inside}
 use Rattle.block_tree.proofs.balance.balance.Goals as goal

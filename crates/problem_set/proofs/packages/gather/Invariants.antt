@@ -6,6 +6,6 @@ use Rattle.problem_set.proofs.packages.gather.Given as goal
 
 abbrev pub invariant-loop-block : goal.invariant-loop-block
 invariant-loop-block l = record {
-  fields : l.list.fields ≡ flat_map kept_fields (blocks_of (take l.block-index l.blocks) l.owner);
-  moves : l.list.moves ≡ flat_map moves_of (blocks_of (take l.block-index l.blocks) l.owner);
+  fields : l.list.fields ≡ flat_map kept_fields (blocks_of (take l.block-index l.blocks) l.package_name);
+  moves : l.list.moves ≡ flat_map moves_of (blocks_of (take l.block-index l.blocks) l.package_name);
 }

@@ -3,7 +3,7 @@ use Rattle.std.proofs.lemmas.Result.{on_ok_weaker}
 use Rattle.package_fields.specs.declared.flag.Flag.TheVariants.{Sparse}
 use Rattle.package_fields.specs.Flags.{has}
 use Rattle.problem_set.specs.declared.entries.Moves.{Moves}
-use Rattle.problem_set.proofs.Owned.{moves_of_pool}
+use Rattle.problem_set.proofs.PackageLemmas.{moves_of_pool}
 use Rattle.problem_set.proofs.packages.push_block.Goals as goal
 
 pub returns-then-has_flag-clause-moves : goal.returns-then-has_flag-clause-moves

@@ -2,7 +2,7 @@ use Rattle.std.proofs.Common.{rules, sym, subst}
 use Rattle.turn_yard.specs.Inside.{IsLast}
 use Rattle.turn_yard.specs.Tells.{tells}
 use Rattle.turn_yard.proofs.Closing.{some_same}
-use Rattle.turn_yard.proofs.Keeps.{first_closes}
+use Rattle.turn_yard.proofs.Opening.{first_closes}
 use Rattle.turn_yard.proofs.turns.last.Goals as goal
 
 pub unreachable-requires : goal.unreachable-requires

@@ -1,5 +1,5 @@
 use Rattle.std.proofs.Common.{rules, ◌∷◌, [], ◌++◌, List, Option, Some, ap, ◌∙◌}
-use Rattle.turn_yard.proofs.Keeps.{made_opens}
+use Rattle.turn_yard.proofs.Opening.{made_opens}
 use Rattle.turn_yard.proofs.yard.Yard.make.Goals as goal
 
 pub new-requires : goal.new-requires

@@ -1,0 +1,3 @@
+pub mod Written
+pub mod Boxes
+pub mod Rows

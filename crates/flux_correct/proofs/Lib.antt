@@ -1,0 +1,2 @@
+pub mod FaceBoxes
+pub mod Gathered

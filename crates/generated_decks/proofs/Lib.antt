@@ -1,0 +1,10 @@
+pub mod NumberTexts
+pub mod Rows
+pub mod FormFacts
+pub mod MeshSection
+pub mod GridSection
+pub mod DeckBlocks
+pub mod FieldSection
+pub mod BoxSection
+pub mod Fit
+pub mod Reader

@@ -1,0 +1,2 @@
+pub mod PartExtents
+pub mod Parts

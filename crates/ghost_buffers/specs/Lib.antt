@@ -1,0 +1,3 @@
+pub mod Parts
+pub mod Ghosts
+pub mod Regions

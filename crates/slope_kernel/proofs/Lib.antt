@@ -1,0 +1,2 @@
+pub mod AllSlopes
+pub mod CellsBeside

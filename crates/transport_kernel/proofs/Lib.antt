@@ -1,0 +1,4 @@
+pub mod AlongFaces
+pub mod Axes
+pub mod Places
+pub mod SideSums
