@@ -1,2 +1,2 @@
-mod Tags
+pub mod Tags
 mod Following
