@@ -1,5 +1,7 @@
 //! The trees that are built.
 
+ghost use Rattle.std.specs.Prelude.{◌≤◌};
+
 use block_tree::{StaticBox, Tag, Tree, TreeFault};
 use morton_order::Shape;
 use std::alloc::Global;
@@ -79,7 +81,10 @@ const CORNER: [StaticBox; 8] = [
 ];
 
 /// Roots in a plane, refined to level 2 everywhere.
-fn plane(alloc: Global, roots: u32) -> Result<Tree, TreeFault> {
+fn plane(alloc: Global, roots: u32) -> Result<Tree, TreeFault>
+    requires least { 1 ≤ roots }
+    requires most { roots ≤ 64 }
+{
     let shape = Shape {
         dims: 2,
         root: [roots, 64, 1],

@@ -1,2 +1,2 @@
-pub mod Tags
+mod Tags
 mod Following
