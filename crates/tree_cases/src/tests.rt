@@ -61,7 +61,7 @@ fn sight_of(behind: &Behind) -> [u32; 4] {
             let count = others.len();
             let first = others.get(0).unwrap_or(0);
             let last = others.get(count.saturating_sub(1)).unwrap_or(0);
-            [3, count as u32, first, last]
+            [3, if count <= 4 { count as u32 } else { 0 }, first, last]
         }
     }
 }
