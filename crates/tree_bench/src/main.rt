@@ -11,12 +11,12 @@ use std::{env, io};
 
 fn main(rt: HostRuntime) -> io::Result<()> {
     let mut case = Case::Uniform;
-    let mut times = 0;
+    let mut times = 0u32;
     for word in env::args(&rt)?.skip(1) {
         if times == 0 {
             case = Case::named(word.as_str());
         }
-        times = 1000.min(times + 1);
+        times = times.saturating_add(1);
     }
     match leaves_of(rt.alloc(), case, times) {
         Ok(leaves) => println!(rt; "{leaves} leaves"),
