@@ -1,0 +1,4 @@
+pub mod Meshes
+pub mod Masks
+pub mod Ghosts
+pub mod Laws
