@@ -129,7 +129,7 @@ all_within p m each =
     omega (arith, whole, by_number, le)
 
 -- a stage adds at most what may come in
-stage_adds : (p : Problem) (s : State) → IsMeshOf (settings_of p) s.mesh → (n : ℕ) → sum_of_all (settings_of p) (staged_to (settings_of p) s (suc n)).mesh ≤ sum_of_all (settings_of p) (staged_to (settings_of p) s n).mesh + most_inflow p
+pub stage_adds : (p : Problem) (s : State) → IsMeshOf (settings_of p) s.mesh → (n : ℕ) → sum_of_all (settings_of p) (staged_to (settings_of p) s (suc n)).mesh ≤ sum_of_all (settings_of p) (staged_to (settings_of p) s n).mesh + most_inflow p
 stage_adds p s of n =
     let q = settings_of p in
     let h = staged_to q s n in
@@ -144,12 +144,12 @@ stage_adds p s of n =
     let ins = all_within p h.mesh (λ f inside. field_within p h.mesh f on.shape (on.cells ∙ of.cells) (inflow_within q h.mesh f (p.levels - 1) on.mesh on.shape on.coarse (rates_fit p f h.mesh.shape on.shape inside))) in
     omega (arith, le, split, ins)
 
-stages_add : (p : Problem) (s : State) → IsMeshOf (settings_of p) s.mesh → (n : ℕ) → sum_of_all (settings_of p) (staged_to (settings_of p) s n).mesh ≤ sum_of_all (settings_of p) s.mesh + most_inflow p * n
+pub stages_add : (p : Problem) (s : State) → IsMeshOf (settings_of p) s.mesh → (n : ℕ) → sum_of_all (settings_of p) (staged_to (settings_of p) s n).mesh ≤ sum_of_all (settings_of p) s.mesh + most_inflow p * n
 stages_add p s of zero = omega arith
 stages_add p s of (suc n) = let before = stages_add p s of n in let more = stage_adds p s of n in let e : most_inflow p * suc n ≡ most_inflow p * n + most_inflow p = grind arith in omega (arith, before, more, e)
 
 -- the reaction and the check add nothing
-reacted_le : (p : Problem) (react : List ℕ → Reacted) (s : State) → KernelLaws (field_count (settings_of p)) react → IsMeshOf (settings_of p) s.mesh → sum_of_all (settings_of p) (reacted_to (settings_of p) react s).mesh ≤ sum_of_all (settings_of p) (staged_to (settings_of p) s p.nstages).mesh
+pub reacted_le : (p : Problem) (react : List ℕ → Reacted) (s : State) → KernelLaws (field_count (settings_of p)) react → IsMeshOf (settings_of p) s.mesh → sum_of_all (settings_of p) (reacted_to (settings_of p) react s).mesh ≤ sum_of_all (settings_of p) (staged_to (settings_of p) s p.nstages).mesh
 reacted_le p react s laws of =
     let q = settings_of p in
     let h = staged_to q s p.nstages in
@@ -158,7 +158,7 @@ reacted_le p react s laws of =
     let le = sum_to_le (field_count q) (total_of (reacted_to q react s).mesh) (total_of m) (λ f inside. let cut_is = drops_are_what_was_cut q (kept_by_reaction q m h.mask) m f (on_reacting q react s of).mesh inside in omega (arith, cut_is)) in
     omega (arith, keeps, le)
 
-checked_le : (p : Problem) (react : List ℕ → Reacted) (s : State) → IsMeshOf (settings_of p) s.mesh → sum_of_all (settings_of p) (checked (settings_of p) react s).mesh ≤ sum_of_all (settings_of p) (reacted_to (settings_of p) react s).mesh
+pub checked_le : (p : Problem) (react : List ℕ → Reacted) (s : State) → IsMeshOf (settings_of p) s.mesh → sum_of_all (settings_of p) (checked (settings_of p) react s).mesh ≤ sum_of_all (settings_of p) (reacted_to (settings_of p) react s).mesh
 checked_le p react s of =
     let q = settings_of p in
     let h = reacted_to q react s in

@@ -96,7 +96,7 @@ some_checks p = p.stepping_sound.sparsity_sound.least_count
 on_same : (q : Settings) (xs ys : List Loc) (each : ℕ → Loc → ℕ → Slot) → ys ≡ xs → ((leaf f : ℕ) → leaf < length xs → f < field_count q → FitsSlot q f (each leaf (slice_index_or xs leaf origin) f)) → MaskFits q xs (masked ys (field_count q) each)
 on_same q xs ys each same fits = subst (λ (zs : List Loc). MaskFits q xs (masked zs (field_count q) each)) (sym same) (masked_fits q xs each fits)
 
-staged_fits : (p : Problem) (s : State) → IsMeshOf (settings_of p) s.mesh → MaskFits (settings_of p) s.mesh.leaves s.mask → (n : ℕ) → MaskFits (settings_of p) s.mesh.leaves (staged_to (settings_of p) s n).mask
+pub staged_fits : (p : Problem) (s : State) → IsMeshOf (settings_of p) s.mesh → MaskFits (settings_of p) s.mesh.leaves s.mask → (n : ℕ) → MaskFits (settings_of p) s.mesh.leaves (staged_to (settings_of p) s n).mask
 staged_fits p s of fit zero = fit
 staged_fits p s of fit (suc n) =
     let q = settings_of p in
@@ -105,7 +105,7 @@ staged_fits p s of fit (suc n) =
     on_same q s.mesh.leaves h.mesh.leaves (λ leaf l f. called (slot_at h.mask leaf f) (exchange_calls q h.mesh f l)) (on_staged q s of n).leaves
     (λ leaf f inside within. called_fits q f (slot_at h.mask leaf f) (exchange_calls q h.mesh f (slice_index_or s.mesh.leaves leaf origin)) (some_checks p) (before.slots leaf f inside within))
 
-reacted_fits : (p : Problem) (react : List ℕ → Reacted) (s : State) → IsMeshOf (settings_of p) s.mesh → MaskFits (settings_of p) s.mesh.leaves s.mask → MaskFits (settings_of p) s.mesh.leaves (reacted_to (settings_of p) react s).mask
+pub reacted_fits : (p : Problem) (react : List ℕ → Reacted) (s : State) → IsMeshOf (settings_of p) s.mesh → MaskFits (settings_of p) s.mesh.leaves s.mask → MaskFits (settings_of p) s.mesh.leaves (reacted_to (settings_of p) react s).mask
 reacted_fits p react s of fit =
     let q = settings_of p in
     let h = staged_to q s p.nstages in
