@@ -11,7 +11,7 @@ use Rattle.dense_mesh.specs.Laws.{FieldListsAreMeshes, ListsAreTotals}
 use Rattle.dense_mesh.proofs.Tables.{table_at, table_by, table_length, table_same}
 
 -- the lists of a leaf
-on_leaf : List (List (List ℕ)) → ℕ → List (List ℕ)
+abbrev on_leaf : List (List (List ℕ)) → ℕ → List (List ℕ)
 on_leaf lists leaf = table (length lists) (λ f. totals_in lists f leaf)
 
 pub lists_are_totals : ListsAreTotals
@@ -24,7 +24,7 @@ any : Loc
 any = record { level = 0; l1 = 0; l2 = 0; l3 = 0 }
 
 -- what each cell of a leaf gives
-given : Mesh → (Loc → ℕ) → Loc → List ℕ
+abbrev given : Mesh → (Loc → ℕ) → Loc → List ℕ
 given m each l = table (block_size m) (λ place. each (cell_at m l place))
 
 -- the list of a field on a leaf

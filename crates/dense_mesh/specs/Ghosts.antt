@@ -28,7 +28,7 @@ abbrev pub HaveInteriors : Settings → Mesh → Layout → ℕ → List (List �
 HaveInteriors p m layout f lists = (leaf : ℕ) (l : Loc) → slice_get m.leaves leaf ≡ Some l → HasInterior (block_at p m layout f l) (list_at lists leaf)
 
 -- and its ghosts have what the mesh shows there
-pub record SeeMesh (p : Settings) (m : Mesh) (layout : Layout) (f : ℕ) (lists : List (List ℕ)) : Type 0 where
-  pub lists : AreGhostLists layout (length m.leaves) lists
-  pub own : HaveInteriors p m layout f lists
-  pub around : (leaf : ℕ) (l : Loc) → slice_get m.leaves leaf ≡ Some l → SeesAround (block_at p m layout f l) (list_at lists leaf)
+pub record SeeMesh (p : Settings) (m : Mesh) (layout : Layout) (f : ℕ) (ghosts : List (List ℕ)) : Type 0 where
+  pub lists : AreGhostLists layout (length m.leaves) ghosts
+  pub own : HaveInteriors p m layout f ghosts
+  pub around : (leaf : ℕ) (l : Loc) → slice_get m.leaves leaf ≡ Some l → SeesAround (block_at p m layout f l) (list_at ghosts leaf)

@@ -19,6 +19,6 @@ abbrev pub mask_of : ℕ → List (List Slot) → Mask
 mask_of leaves lists = table leaves (λ leaf. table (length lists) (λ f. slot_of (slot_in lists f leaf)))
 
 -- a slot for each of so many fields and leaves
-pub record AreSlots (fields leaves : ℕ) (lists : List (List Slot)) : Type 0 where
-  pub fields : length lists ≡ fields
-  pub leaf_slots : (f : ℕ) → f < fields → length (slice_index_or lists f []) ≡ leaves
+pub record AreSlots (count leaves : ℕ) (lists : List (List Slot)) : Type 0 where
+  pub fields : length lists ≡ count
+  pub leaf_slots : (f : ℕ) → f < count → length (slice_index_or lists f []) ≡ leaves
