@@ -26,12 +26,12 @@ flux_at_box l axis r low list i is = ap (λ (v : List ℕ). slice_index list (fa
 flux_sum_of_box : (f : List ℕ) (l : Layout) (axis : ℕ) (r : Region) (low list i : List ℕ) → low ≡ r.low → sum_in f (at_box list (faces_box l axis low)) i ≡ sum_in f (flux_in l axis r list) i
 flux_sum_of_box f l axis r low list i is = sum_same (count_of f) (λ j. at_box list (faces_box l axis low) (part_index f i j)) (λ j. flux_in l axis r list (part_index f i j)) (λ j h. flux_at_box l axis r low list (part_index f i j) is)
 
-pub sums_small : (l : Layout) (axis : ℕ) (high : Bool) (list e each low : List ℕ) (from : BoxIn) → e ≡ coarse_extents l axis → each ≡ face_factors l.dims axis → low ≡ (side_faces l axis high).low → from ≡ faces_box l axis low → SumsBelow (2 ^ 62) l axis high list
-    → (i : List ℕ) → IsWithin e i → sum_in each (at_box list from) i < 2 ^ 62
+pub sums_small : (l : Layout) (axis : ℕ) (high : Bool) (list e each low : List ℕ) (from : BoxIn) → e ≡ coarse_extents l axis → each ≡ face_factors l.dims axis → low ≡ (side_faces l axis high).low → from ≡ faces_box l axis low → SumsBelow (2 ^ 64) l axis high list
+    → (i : List ℕ) → IsWithin e i → sum_in each (at_box list from) i < 2 ^ 64
 sums_small l axis high list e each low from p q is r small i w =
-    subst (λ (f : List ℕ). sum_in f (at_box list from) i < 2 ^ 62) (sym q)
-    (subst (λ (b : BoxIn). sum_in (face_factors l.dims axis) (at_box list b) i < 2 ^ 62) (sym r)
-    (subst (λ (v : ℕ). v < 2 ^ 62) (sym (flux_sum_of_box (face_factors l.dims axis) l axis (side_faces l axis high) low list i is)) (small i (subst (λ (v : List ℕ). IsWithin v i) p w))))
+    subst (λ (f : List ℕ). sum_in f (at_box list from) i < 2 ^ 64) (sym q)
+    (subst (λ (b : BoxIn). sum_in (face_factors l.dims axis) (at_box list b) i < 2 ^ 64) (sym r)
+    (subst (λ (v : ℕ). v < 2 ^ 64) (sym (flux_sum_of_box (face_factors l.dims axis) l axis (side_faces l axis high) low list i is)) (small i (subst (λ (v : List ℕ). IsWithin v i) p w))))
 
 gathered_by : (l : Layout) (axis : ℕ) (high : Bool) (list new low : List ℕ) → low ≡ (side_faces l axis high).low → length new ≡ count_of (coarse_extents l axis)
     → HasSums (face_factors l.dims axis) (coarse_extents l axis) list (faces_box l axis low) new (whole_box (coarse_extents l axis)) → new ≡ flux_sums l axis high list

@@ -19,7 +19,7 @@ fn write_sums(layout: &Layout, side: Side, list: &[u64], sums: &mut [u64])
     requires axis { side.axis < layout.now.dims }
     requires list { length list.now ≡ face_count layout.now }
     requires sums { length sums.old ≡ count_of (coarse_extents_of layout.now side.axis) }
-    requires small { SumsBelow (2 ^ 62) layout.now side.axis side.high list.now }
+    requires small { SumsBelow (2 ^ 64) layout.now side.axis side.high list.now }
     ensures { sums.new ≡ flux_sums layout.now side.axis side.high list.now }
 {
     let extents = coarse_extents(layout, side.axis);
@@ -36,8 +36,8 @@ fn write_part(layout: &Layout, side: Side, right: &[u64], left: &[u64], part: &m
     requires right_list { length right.now ≡ face_count layout.now }
     requires left_list { length left.now ≡ face_count layout.now }
     requires part { length part.old ≡ count_of (coarse_extents_of layout.now side.axis) + count_of (coarse_extents_of layout.now side.axis) }
-    requires right_small { SumsBelow (2 ^ 62) layout.now side.axis side.high right.now }
-    requires left_small { SumsBelow (2 ^ 62) layout.now side.axis side.high left.now }
+    requires right_small { SumsBelow (2 ^ 64) layout.now side.axis side.high right.now }
+    requires left_small { SumsBelow (2 ^ 64) layout.now side.axis side.high left.now }
     ensures { part.new ≡ flux_part layout.now side.axis side.high right.now left.now }
 {
     let extents = coarse_extents(layout, side.axis);
@@ -49,7 +49,7 @@ fn write_part(layout: &Layout, side: Side, right: &[u64], left: &[u64], part: &m
 /// Makes a field's part of the flux letter to the coarser leaf behind a side of the sender, from what passes its faces:
 /// for each of the receiver's faces the sum over those of the sender, all to the right, then all to the left.
 ///
-/// `side` is the sender's own. The sums are below 2^62.
+/// `side` is the sender's own. The sums are below 2^64.
 pub fn gather(
     alloc: Global,
     layout: &Layout,
@@ -60,8 +60,8 @@ pub fn gather(
     requires axis { side.axis < layout.now.dims }
     requires right_list { length right.now ≡ face_count layout.now }
     requires left_list { length left.now ≡ face_count layout.now }
-    requires right_small { SumsBelow (2 ^ 62) layout.now side.axis side.high right.now }
-    requires left_small { SumsBelow (2 ^ 62) layout.now side.axis side.high left.now }
+    requires right_small { SumsBelow (2 ^ 64) layout.now side.axis side.high right.now }
+    requires left_small { SumsBelow (2 ^ 64) layout.now side.axis side.high left.now }
     ensures { IfOk result (λ part. part ≡ flux_part layout.now side.axis side.high right.now left.now) }
 {
     let extents = coarse_extents(layout, side.axis);

@@ -29,11 +29,14 @@ box_sum : (f : List ℕ) (l : Layout) (r : Region) (b : BlockRegion) (cells i : 
 box_sum f l r b cells i is = sum_same (count_of f) (λ j. at_box cells (box_of l b.low) (part_index f i j)) (λ j. cell_in l r cells (part_index f i j)) (λ j h. box_cell l r b cells (part_index f i j) is)
 
 pub made_below : (how : How) (l : Layout) (axis : ℕ) (high : Bool) (half : ℕ) (cells e : List ℕ) (b : BlockRegion) → e ≡ part_extents how l axis → IsRegion (sent how l axis high half) b
-    → PartBelow (2 ^ 62) how l axis high half cells → MadeBelow (2 ^ 62) how l e b cells
+    → PartBelow (2 ^ 62) how l axis high half cells → MadeBelow (2 ^ 64) how l e b cells
 made_below Same l axis high half cells e b same is small = tt
 made_below Coarser l axis high half cells e b same is small = tt
 made_below Finer l axis high half cells e b same is small = λ i w.
-    subst (λ (v : ℕ). v < 2 ^ 62) (sym (box_sum (factors l.dims) l (sent Finer l axis high half) b cells i is)) (small i (subst (λ (v : List ℕ). IsWithin v i) same w))
+    subst (λ (v : ℕ). v < 2 ^ 64) (sym (box_sum (factors l.dims) l (sent Finer l axis high half) b cells i is)) (fits (part_cell Finer l axis high half cells i) (small i (subst (λ (v : List ℕ). IsWithin v i) same w)))
+  where
+    fits : (v : ℕ) → v < 2 ^ 62 → v < 2 ^ 64
+    fits v h = omega arith
 
 part_made_by : (how : How) (l : Layout) (axis : ℕ) (high : Bool) (half : ℕ) (cells new : List ℕ) (b : BlockRegion) → IsRegion (sent how l axis high half) b → length new ≡ count_of (part_extents how l axis)
     → IsMadeBy how l (part_extents how l axis) b cells new → new ≡ part_of how l axis high half cells

@@ -47,7 +47,7 @@ fn write_cells(
     requires extents { region.now.extents ≡ sent_extents how layout.now.dims extents }
     requires list { length cells.now ≡ len layout.now }
     requires part { length part.old ≡ count_of extents }
-    requires small { MadeBelow (2 ^ 62) how layout.now extents region.now cells.now }
+    requires small { MadeBelow (2 ^ 64) how layout.now extents region.now cells.now }
     ensures { IsMadeBy how layout.now extents region.now cells.now part.new }
 {
     let from_box = in_block(layout, region);

@@ -66,7 +66,7 @@ one_more_fine_row s from n row z b at j old into new is len_old len_into long st
 
 pub fine_row_below : (s : Sums) (from : List ℕ) (n row z b at j : ℕ) (old into : List ℕ) → AreSums s from n → length old ≡ n → length into ≡ n → j ≡ slice_index s.fine 0 → b < slice_index s.factors 1 → at ≡ row_start s.from_box (slice_index s.factors 1 * row + b) z
     → ((x : ℕ) → x < length old → get_or into x 0 ≡ get_or old x 0 + sum_to b (λ b. sum_along1 s from x (slice_index s.factors 1 * row + b) z))
-    → PlaneBelow (2 ^ 62) s from row z old → RowBelow (2 ^ 62) (slice_index s.factors 0) (take j (drop at from)) into
+    → PlaneBelow (2 ^ 64) s from row z old → RowBelow (2 ^ 64) (slice_index s.factors 0) (take j (drop at from)) into
 fine_row_below s from n row z b at j old into is len_old len_into long less starts known small x h =
     let g : ℕ → ℕ = λ b. sum_along1 s from x (slice_index s.factors 1 * row + b) z in
     let l : x < length old = omega arith in
@@ -90,7 +90,7 @@ axes_of s from n x row plane is =
 
 pub fine_plane_below : (s : Sums) (from : List ℕ) (n row plane c : ℕ) (into : List ℕ) → IsSumRow s from n row plane → length into ≡ n → c < slice_index s.factors 2
     → ((x : ℕ) → x < n → get_or into x 0 ≡ sum_to c (λ c. sum_along2 s from x row (slice_index s.factors 2 * plane + c)))
-    → PlaneBelow (2 ^ 62) s from row (slice_index s.factors 2 * plane + c) into
+    → PlaneBelow (2 ^ 64) s from row (slice_index s.factors 2 * plane + c) into
 fine_plane_below s from n row plane c into is len less known x h =
     let l : x < n = omega arith in
     let w : IsWithin s.extents (x ∷ row ∷ plane ∷ []) = record { along1 = omega (arith, is.sums.whole); along2 = is.lies_in.row_in; along3 = is.lies_in.plane_in } in

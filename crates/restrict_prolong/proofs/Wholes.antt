@@ -81,12 +81,12 @@ within_list : (n i : List ℕ) → IsWithin (three n) i → IsWithin n i
 within_list n i w = record { along1 = w.along1; along2 = w.along2; along3 = w.along3 }
 
 pub small_sums : (dims : ℕ) (n fine each : List ℕ) (a : BoxIn) → each ≡ factors dims → a ≡ whole_box (refined (factors dims) n)
-    → ((i : List ℕ) → IsWithin n i → sum_in (factors dims) (at_index (refined (factors dims) n) fine) i < 2 ^ 62)
-    → (i : List ℕ) → IsWithin (three n) i → sum_in each (at_box fine a) i < 2 ^ 62
+    → ((i : List ℕ) → IsWithin n i → sum_in (factors dims) (at_index (refined (factors dims) n) fine) i < 2 ^ 64)
+    → (i : List ℕ) → IsWithin (three n) i → sum_in each (at_box fine a) i < 2 ^ 64
 small_sums dims n fine each a p q small i w =
-    subst (λ (e : List ℕ). sum_in e (at_box fine a) i < 2 ^ 62) (sym p)
-    (subst (λ (b : BoxIn). sum_in (factors dims) (at_box fine b) i < 2 ^ 62) (sym q)
-    (subst (λ (v : ℕ). v < 2 ^ 62) (sym (whole_sum (factors dims) (refined (factors dims) n) fine i)) (small i (within_list n i w))))
+    subst (λ (e : List ℕ). sum_in e (at_box fine a) i < 2 ^ 64) (sym p)
+    (subst (λ (b : BoxIn). sum_in (factors dims) (at_box fine b) i < 2 ^ 64) (sym q)
+    (subst (λ (v : ℕ). v < 2 ^ 64) (sym (whole_sum (factors dims) (refined (factors dims) n) fine i)) (small i (within_list n i w))))
 
 pub restricted_by : (dims : ℕ) (n fine new each : List ℕ) (a b : BoxIn) → each ≡ factors dims → a ≡ whole_box (refined (factors dims) n) → b ≡ whole_box (three n) → length new ≡ count_of n
     → HasSums each (three n) fine a new b → new ≡ restricted dims n fine

@@ -42,7 +42,7 @@ pub record AreSums (s : Sums) (from : List ℕ) (len : ℕ) : Type 0 where
 pub record IsSumRow (s : Sums) (from : List ℕ) (len row plane : ℕ) : Type 0 where
   pub sums : AreSums s from len
   pub lies_in : IsRowOf s.extents row plane
-  pub small : SumsBelow (2 ^ 62) s.factors s.extents from s.from_box
+  pub small : SumsBelow (2 ^ 64) s.factors s.extents from s.from_box
 
 -- a row with the sums of a fine plane added
 abbrev pub AddsPlane : Sums → List ℕ → ℕ → ℕ → List ℕ → List ℕ → Type 0

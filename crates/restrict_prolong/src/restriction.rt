@@ -23,7 +23,7 @@ pub fn restrict_box(
     requires cells { HasCells extents }
     requires from { IsBoxIn (refined factors extents) from_box (length from.now) }
     requires into { IsBoxIn extents into_box (length into.old) }
-    requires small { SumsBelow (2 ^ 62) factors extents from.now from_box }
+    requires small { SumsBelow (2 ^ 64) factors extents from.now from_box }
     ensures inside { HasSums factors extents from.now from_box into.new into_box }
     ensures outside { StaysOffBox extents into_box into.old into.new }
 {

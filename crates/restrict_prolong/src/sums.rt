@@ -23,7 +23,7 @@ fn add_rows(op: &Sums, from: &[u64], row: usize, plane: usize, into: &mut [u64])
     requires sums { AreSums op.now from.now (length into.old) }
     requires row { row < slice_index op.now.extents 1 }
     requires plane { plane < slice_index op.now.fine 2 }
-    requires small { PlaneBelow (2 ^ 62) op.now from.now row plane into.old }
+    requires small { PlaneBelow (2 ^ 64) op.now from.now row plane into.old }
     ensures { AddsPlane op.now from.now row plane into.old into.new }
 {
     for b in 0..op.factors[1] {

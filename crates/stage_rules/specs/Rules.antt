@@ -7,10 +7,10 @@ use Rattle.row_updates.specs.Numbers.{Numbers}
 abbrev pub after_pass : Numbers → ℕ
 after_pass n = n.own + (n.first + n.fourth) - (n.third + n.second)
 
--- it can pay, and what it gains leaves it below 2^62
+-- it can pay, and what it gains leaves it below 2^63
 pub record Passes (n : Numbers) : Type 0 where
   pub pays : n.third + n.second ≤ n.own
-  pub small : n.own + (n.first + n.fourth) < 2 ^ 62
+  pub small : n.own + (n.first + n.fourth) < 2 ^ 63
 
 -- a cell's total reconstructed at the face ahead of it with a limited slope: half of the smaller difference to its two
 -- neighbours more where the totals rise towards the face, and less where they fall; 4 between 0 and 8 counts for 6,

@@ -26,7 +26,7 @@ impl<A: Portions, B: Portions, C: Portions, D: Portions> RowRule for CellPass<A,
 
     ghost takes = { λ s n. (n.first ≤ A.greatest s.from_below) × (n.fourth ≤ B.greatest s.from_above) × (n.second ≤ C.greatest s.to_below) × (n.third ≤ D.greatest s.to_above)
         × (portion n.second (C.rate s.to_below) (C.denominator s.to_below) + portion n.third (D.rate s.to_above) (D.denominator s.to_above) ≤ n.own)
-        × (n.own + (portion n.first (A.rate s.from_below) (A.denominator s.from_below) + portion n.fourth (B.rate s.from_above) (B.denominator s.from_above)) < 2 ^ 62) };
+        × (n.own + (portion n.first (A.rate s.from_below) (A.denominator s.from_below) + portion n.fourth (B.rate s.from_above) (B.denominator s.from_above)) < 2 ^ 63) };
 
     fn update_row(
         &self,

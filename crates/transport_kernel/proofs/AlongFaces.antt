@@ -10,7 +10,7 @@ use Rattle.transport_kernel.specs.Axis.{CanPassAlong, HasPassedAlong, cell_exten
 use Rattle.transport_kernel.specs.Update.{GhostsStay, face_beside, listed, total_at}
 use Rattle.transport_kernel.proofs.Places.{cell_address, face_address, from_extents, in_extents}
 
-numbers_pass : (o f s t u o' f' s' t' u' : ℕ) → o ≡ o' → f ≡ f' → s ≡ s' → t ≡ t' → u ≡ u' → t' + s' ≤ o' → o' + (f' + u') < 2 ^ 62
+numbers_pass : (o f s t u o' f' s' t' u' : ℕ) → o ≡ o' → f ≡ f' → s ≡ s' → t ≡ t' → u ≡ u' → t' + s' ≤ o' → o' + (f' + u') < 2 ^ 63
     → Passes (record { own = o; first = f; second = s; third = t; fourth = u })
 numbers_pass o f s t u o' f' s' t' u' a b c d e pays small = record { pays = omega arith; small = omega arith }
 

@@ -28,7 +28,7 @@ none_passed l right left cells = record { totals = λ i w. omega arith; ghosts =
 left_over : (o g gs lo ls all most : ℕ) → lo + ls ≤ all → all ≤ o → (ls ≤ o + g - lo)
 left_over o g gs lo ls all most h k = omega arith
 
-small_still : (o g gs lo all : ℕ) → g + gs ≤ all → o + all < 2 ^ 62 → o + g - lo + gs < 2 ^ 62
+small_still : (o g gs lo all : ℕ) → g + gs ≤ all → o + all < 2 ^ 63 → o + g - lo + gs < 2 ^ 63
 small_still o g gs lo all h k = omega arith
 
 pub can_pass_along : (l : Layout) (axis : ℕ) (right left : ℕ → List ℕ → ℕ) (old new : List ℕ) → axis < l.dims → CanPass l right left old → PassedBelow l axis right left old new → CanPassAlong l axis right left new
@@ -36,7 +36,7 @@ can_pass_along l axis right left old new u can is = record {
   pays = λ i w. subst (λ (v : ℕ). loss_along right left i axis ≤ v) (sym (is.totals i w))
       (left_over (total_at l old i) (sum_axes axis (gain_along right left i)) 0 (sum_axes axis (loss_along right left i)) (loss_along right left i axis) (loss l.dims right left i) 0
       (sum_grows (loss_along right left i) (suc axis) l.dims (omega arith)) (can.pays i w));
-  small = λ i w. subst (λ (v : ℕ). v + gain_along right left i axis < 2 ^ 62) (sym (is.totals i w))
+  small = λ i w. subst (λ (v : ℕ). v + gain_along right left i axis < 2 ^ 63) (sym (is.totals i w))
       (small_still (total_at l old i) (sum_axes axis (gain_along right left i)) (gain_along right left i axis) (sum_axes axis (loss_along right left i)) (gain l.dims right left i)
       (sum_grows (gain_along right left i) (suc axis) l.dims (omega arith)) (can.small i w));
 }

@@ -19,10 +19,10 @@ cells_box l = record { first = 0; widths = widths l; low = ghost_layers l 0 ∷ 
 abbrev pub faces_box : Layout → ℕ → Bool → BoxIn
 faces_box l axis high = record { first = first_face l axis; widths = face_extents l axis; low = with_along axis (cond high 1 0) (0 ∷ 0 ∷ 0 ∷ []) }
 
--- no cell loses more than it has along an axis, and none comes to 2^62
+-- no cell loses more than it has along an axis, and none comes to 2^63
 pub record CanPassAlong (l : Layout) (axis : ℕ) (right left : ℕ → List ℕ → ℕ) (cells : List ℕ) : Type 0 where
   pub pays : (i : List ℕ) → IsWithin l.cells i → loss_along right left i axis ≤ total_at l cells i
-  pub small : (i : List ℕ) → IsWithin l.cells i → total_at l cells i + gain_along right left i axis < 2 ^ 62
+  pub small : (i : List ℕ) → IsWithin l.cells i → total_at l cells i + gain_along right left i axis < 2 ^ 63
 
 -- each interior cell has gained and lost along an axis
 abbrev pub HasPassedAlong : Layout → ℕ → (ℕ → List ℕ → ℕ) → (ℕ → List ℕ → ℕ) → List ℕ → List ℕ → Type 0

@@ -42,10 +42,10 @@ cell_place l i = place l (added (interior l).low i)
 abbrev pub total_at : Layout → List ℕ → List ℕ → ℕ
 total_at l cells i = slice_index cells (cell_place l i)
 
--- no interior cell loses more than it has, and none comes to 2^62: what passes is given for each face, by axis and index
+-- no interior cell loses more than it has, and none comes to 2^63: what passes is given for each face, by axis and index
 pub record CanPass (l : Layout) (right left : ℕ → List ℕ → ℕ) (cells : List ℕ) : Type 0 where
   pub pays : (i : List ℕ) → IsWithin l.cells i → loss l.dims right left i ≤ total_at l cells i
-  pub small : (i : List ℕ) → IsWithin l.cells i → total_at l cells i + gain l.dims right left i < 2 ^ 62
+  pub small : (i : List ℕ) → IsWithin l.cells i → total_at l cells i + gain l.dims right left i < 2 ^ 63
 
 -- each interior cell has what it had, and what it gained, less what it lost: 8 with 3 gained and 2 lost is 9
 abbrev pub HasPassed : Layout → (ℕ → List ℕ → ℕ) → (ℕ → List ℕ → ℕ) → List ℕ → List ℕ → Type 0

@@ -42,7 +42,7 @@ fn update_along(layout: &Layout, axis: u32, cells: &mut [u64], right: &[u64], le
 /// through its high faces. Ghosts stay as they are.
 ///
 /// `right` and `left` have the faces of x1, then of x2, then of x3, x1 fastest, as [`fluxes`](crate::fluxes) writes them.
-/// No cell may lose more than it has, and none may come to 2^62.
+/// No cell may lose more than it has, and none may come to 2^63.
 pub fn update(layout: &Layout, cells: &mut [u64], right: &[u64], left: &[u64])
     requires cell_list { length cells.old ≡ len layout.now }
     requires right_list { length right.now ≡ face_count layout.now }

@@ -22,7 +22,7 @@ can_pass : (s : IsLayout 1 (4 ∷ 1 ∷ 1 ∷ [])) → CanPass (record { dims = 
 can_pass s = record {
   pays = λ i w. four (λ x y z. loss 1 (listed (row s) (0 ∷ 2 ∷ 0 ∷ 0 ∷ 0 ∷ [])) (listed (row s) (0 ∷ 0 ∷ 0 ∷ 0 ∷ 2 ∷ [])) (x ∷ y ∷ z ∷ []) ≤ total_at (row s) (5 ∷ 5 ∷ 8 ∷ 0 ∷ 0 ∷ 3 ∷ 16 ∷ 0 ∷ []) (x ∷ y ∷ z ∷ []))
       (omega arith) (omega arith) (omega arith) (omega arith) (slice_index i 0) (slice_index i 1) (slice_index i 2) w.along1 w.along2 w.along3;
-  small = λ i w. four (λ x y z. total_at (row s) (5 ∷ 5 ∷ 8 ∷ 0 ∷ 0 ∷ 3 ∷ 16 ∷ 0 ∷ []) (x ∷ y ∷ z ∷ []) + gain 1 (listed (row s) (0 ∷ 2 ∷ 0 ∷ 0 ∷ 0 ∷ [])) (listed (row s) (0 ∷ 0 ∷ 0 ∷ 0 ∷ 2 ∷ [])) (x ∷ y ∷ z ∷ []) < 2 ^ 62)
+  small = λ i w. four (λ x y z. total_at (row s) (5 ∷ 5 ∷ 8 ∷ 0 ∷ 0 ∷ 3 ∷ 16 ∷ 0 ∷ []) (x ∷ y ∷ z ∷ []) + gain 1 (listed (row s) (0 ∷ 2 ∷ 0 ∷ 0 ∷ 0 ∷ [])) (listed (row s) (0 ∷ 0 ∷ 0 ∷ 0 ∷ 2 ∷ [])) (x ∷ y ∷ z ∷ []) < 2 ^ 63)
       (omega arith) (omega arith) (omega arith) (omega arith) (slice_index i 0) (slice_index i 1) (slice_index i 2) w.along1 w.along2 w.along3;
 }
 
