@@ -1,0 +1,13 @@
+pub mod Boxes
+pub mod Along
+pub mod Behinds
+pub mod Spans
+pub mod SameLevel
+pub mod Outside
+pub mod Halves
+pub mod CoarserLevel
+pub mod FinerHalves
+pub mod FinerLevel
+pub mod FinerGhosts
+pub mod Bounds
+pub mod Stays

@@ -1,0 +1,5 @@
+pub mod Sides
+pub mod Parts
+pub mod Ghosts
+pub mod Bounds
+pub mod Stays
