@@ -1,0 +1,9 @@
+pub mod Leaves
+pub mod Sums
+pub mod Pushes
+pub mod Steps
+pub mod SlotSteps
+pub mod Fills
+pub mod Cuts
+pub mod Calls
+pub mod Above

@@ -1,0 +1,214 @@
+//! The mask after an exchange, after a reaction, and after a check.
+
+ghost use Rattle.std.specs.Prelude.{◌≡◌, ◌<◌, ℕ, [], false, not, map, length};
+ghost use Rattle.std.specs.List.{slice_index_or};
+ghost use Rattle.block_tree.specs.Blocks.{leaves};
+ghost use Rattle.problem_set.specs.SettingsOf.{settings_of};
+ghost use Rattle.sparse_pool.specs.Idle.{idle};
+ghost use Rattle.mesh_rules.specs.Sums.{table};
+ghost use Rattle.mesh_rules.specs.Fields.{field_count};
+ghost use Rattle.mesh_rules.specs.Mask.{called, checked_slot, exchange_calls, kept_by_check, kept_by_exchange, kept_by_reaction, slot_at};
+ghost use Rattle.dense_mesh.specs.Meshes.{IsMeshIn, mesh_of};
+ghost use Rattle.dense_mesh.specs.Masks.{AreSlots, mask_of, slot_of};
+ghost use Rattle.dense_mask.specs.SlotSteps.{AreChanged, checked_by, slot_on};
+
+use crate::fields::is_sparse;
+use block_layout::Layout;
+use block_tree::Tree;
+use cell_lists::Cells;
+use dense_mesh::{FieldSlots, FieldTotals, Slot};
+use package_fields::Items;
+use problem_set::Problem;
+use sparse_pool::{is_idle, note_check};
+use std::alloc::Global;
+use std::mem;
+
+/// A slot after an exchange that calls for its field there, or does not.
+fn keep_called(slot: Slot, calls: bool) -> Slot
+    ensures { slot_of result ≡ called (slot_of slot) calls }
+{
+    if slot.kept {
+        return slot;
+    }
+    Slot {
+        kept: calls,
+        idle: 0,
+    }
+}
+
+/// A slot after a reaction that left these totals there.
+fn keep_above(slot: Slot, cells: &[u64], threshold: u64) -> Slot
+    ensures { slot_of result ≡ called (slot_of slot) (not (idle cells.now threshold)) }
+{
+    if slot.kept {
+        return slot;
+    }
+    Slot {
+        kept: !is_idle(cells, threshold),
+        idle: 0,
+    }
+}
+
+/// The slot of a sparse field after a check that finds these totals there.
+fn check_slot(slot: Slot, cells: &[u64], threshold: u64, limit: u32) -> Slot
+    requires { slot.idle < limit }
+    ensures { slot_of result ≡ checked_by limit (idle cells.now threshold) (slot_of slot) }
+{
+    if !slot.kept {
+        return slot;
+    }
+    let checked = note_check(slot.idle, is_idle(cells, threshold), limit);
+    if checked.free {
+        Slot {
+            kept: false,
+            idle: 0,
+        }
+    } else {
+        Slot {
+            kept: true,
+            idle: checked.count,
+        }
+    }
+}
+
+/// A field's slots after an exchange, of which is said for each leaf whether it calls for the field there.
+fn keep_called_slots(calls: &[bool], slots: Vec<Slot>) -> Vec<Slot>
+    requires { length calls.now ≡ length slots.items }
+    ensures { AreChanged (λ leaf slot. called (slot_of slot) (slice_index_or calls.now leaf false)) slots.items result.items }
+{
+    let mut slots = slots;
+    for leaf in 0..calls.len() {
+        slots[leaf] = keep_called(slots[leaf], calls[leaf]);
+    }
+    slots
+}
+
+/// A field's slots after a reaction that left these totals on each leaf.
+fn keep_above_slots(list: &[Cells], threshold: u64, slots: Vec<Slot>) -> Vec<Slot>
+    requires { length list.now ≡ length slots.items }
+    ensures { AreChanged (λ leaf slot. called (slot_of slot) (not (idle (slice_index_or list.now leaf []) threshold))) slots.items result.items }
+{
+    let mut slots = slots;
+    for leaf in 0..list.len() {
+        slots[leaf] = keep_above(slots[leaf], list[leaf].as_slice(), threshold);
+    }
+    slots
+}
+
+/// A sparse field's slots after a check that finds these totals on each leaf.
+fn check_slots(list: &[Cells], threshold: u64, limit: u32, slots: Vec<Slot>) -> Vec<Slot>
+    requires leaves { length list.now ≡ length slots.items }
+    requires idle { (leaf : ℕ) → leaf < length slots.items → (slot_on slots.items leaf).idle < limit }
+    ensures { AreChanged (λ leaf slot. checked_by limit (idle (slice_index_or list.now leaf []) threshold) (slot_of slot)) slots.items result.items }
+{
+    let mut slots = slots;
+    for leaf in 0..list.len() {
+        slots[leaf] = check_slot(slots[leaf], list[leaf].as_slice(), threshold, limit);
+    }
+    slots
+}
+
+/// Changes a field's slots by an exchange.
+fn keep_called_field(alloc: Global, calls: &[bool], slots: &mut FieldSlots)
+    requires { length calls.now ≡ length slots.old }
+    ensures { AreChanged (λ leaf slot. called (slot_of slot) (slice_index_or calls.now leaf false)) slots.old slots.new }
+{
+    let old = mem::replace(slots, FieldSlots::new(alloc));
+    *slots = FieldSlots::from_vec(keep_called_slots(calls, old.into_vec()));
+}
+
+/// Changes a field's slots by a reaction.
+fn keep_above_field(alloc: Global, list: &[Cells], threshold: u64, slots: &mut FieldSlots)
+    requires { length list.now ≡ length slots.old }
+    ensures { AreChanged (λ leaf slot. called (slot_of slot) (not (idle (slice_index_or list.now leaf []) threshold))) slots.old slots.new }
+{
+    let old = mem::replace(slots, FieldSlots::new(alloc));
+    *slots = FieldSlots::from_vec(keep_above_slots(list, threshold, old.into_vec()));
+}
+
+/// Changes a field's slots by a check, which leaves a field that is not sparse as it is.
+fn check_field(alloc: Global, problem: &Problem, field: u32, list: &[Cells], slots: &mut FieldSlots)
+    requires field { field < field_count (settings_of problem.now) }
+    requires leaves { length list.now ≡ length slots.old }
+    requires idle { (leaf : ℕ) → leaf < length slots.old → (slot_on slots.old leaf).idle < problem.now.dealloc_count }
+    ensures { AreChanged (λ leaf slot. checked_slot (settings_of problem.now) field (idle (slice_index_or list.now leaf []) problem.now.dealloc_threshold) (slot_of slot)) slots.old slots.new }
+{
+    if is_sparse(problem, field) {
+        let old = mem::replace(slots, FieldSlots::new(alloc));
+        *slots = FieldSlots::from_vec(check_slots(
+            list,
+            problem.dealloc_threshold,
+            problem.dealloc_count,
+            old.into_vec(),
+        ));
+    }
+}
+
+/// The mask after the exchange of a stage, of which `calls` says for each field and each leaf whether it calls for the field
+/// there. What is kept stays so; `problem`, `tree` and `lists` say which mesh was exchanged.
+pub fn keep_by_exchange(
+    alloc: Global,
+    problem: &Problem,
+    tree: &Tree,
+    lists: &[FieldTotals],
+    calls: &[Items<bool>],
+    slots: Vec<FieldSlots>,
+) -> Vec<FieldSlots>
+    requires calls { let p = settings_of problem.now in let m = mesh_of tree.now problem.now.cells lists.now in calls.now ≡ table (field_count p) (λ f. map (exchange_calls p m f) m.leaves) }
+    requires slots { AreSlots (field_count (settings_of problem.now)) (length (leaves tree.now)) slots.items }
+    ensures mask { let p = settings_of problem.now in let leaves = length (leaves tree.now) in mask_of leaves result.items ≡ kept_by_exchange p (mesh_of tree.now problem.now.cells lists.now) (mask_of leaves slots.items) }
+    ensures slots { AreSlots (field_count (settings_of problem.now)) (length (leaves tree.now)) result.items }
+{
+    let mut slots = slots;
+    for field in 0..calls.len() {
+        keep_called_field(alloc, calls[field].as_slice(), &mut slots[field]);
+    }
+    slots
+}
+
+/// The mask after the reactions that leave this mesh: a field is kept from now on where some total of it is above the problem's
+/// threshold for that.
+pub fn keep_by_reaction(
+    alloc: Global,
+    problem: &Problem,
+    tree: &Tree,
+    layout: &Layout,
+    lists: &[FieldTotals],
+    slots: Vec<FieldSlots>,
+) -> Vec<FieldSlots>
+    requires mesh { IsMeshIn (settings_of problem.now) tree.now layout.now lists.now }
+    requires slots { AreSlots (field_count (settings_of problem.now)) (length (leaves tree.now)) slots.items }
+    ensures mask { let p = settings_of problem.now in let leaves = length (leaves tree.now) in mask_of leaves result.items ≡ kept_by_reaction p (mesh_of tree.now problem.now.cells lists.now) (mask_of leaves slots.items) }
+    ensures slots { AreSlots (field_count (settings_of problem.now)) (length (leaves tree.now)) result.items }
+{
+    let mut slots = slots;
+    for field in 0..lists.len() {
+        let list = lists[field].as_slice();
+        keep_above_field(alloc, list, problem.alloc_threshold, &mut slots[field]);
+    }
+    slots
+}
+
+/// The mask after the check of this mesh: a sparse field is freed where no total of it was above the problem's threshold for that
+/// at so many checks in a row as the problem says.
+pub fn keep_by_check(
+    alloc: Global,
+    problem: &Problem,
+    tree: &Tree,
+    layout: &Layout,
+    lists: &[FieldTotals],
+    slots: Vec<FieldSlots>,
+) -> Vec<FieldSlots>
+    requires mesh { IsMeshIn (settings_of problem.now) tree.now layout.now lists.now }
+    requires slots { AreSlots (field_count (settings_of problem.now)) (length (leaves tree.now)) slots.items }
+    requires idle { (leaf f : ℕ) → leaf < length (leaves tree.now) → f < field_count (settings_of problem.now) → (slot_at (mask_of (length (leaves tree.now)) slots.items) leaf f).idle < problem.now.dealloc_count }
+    ensures mask { let p = settings_of problem.now in let leaves = length (leaves tree.now) in mask_of leaves result.items ≡ kept_by_check p (mesh_of tree.now problem.now.cells lists.now) (mask_of leaves slots.items) }
+    ensures slots { AreSlots (field_count (settings_of problem.now)) (length (leaves tree.now)) result.items }
+{
+    let mut slots = slots;
+    for field in 0..lists.len() {
+        let list = lists[field].as_slice();
+        check_field(alloc, problem, field as u32, list, &mut slots[field]);
+    }
+    slots
+}
