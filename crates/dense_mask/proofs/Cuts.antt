@@ -92,7 +92,7 @@ cut_lists p t l old new slots n is are over done =
     ∙ left_row p m k is.mesh.mesh f leaf (stays_on p f (slice_index_or slots f []) leaf) (totals_in old f leaf) (has_row p t l old is f leaf some small) (stays_is p m is.mesh.mesh slots are f leaf some small))
 
 -- a sum over locations by their numbers
-over_numbers : (xs : List Loc) (each : Loc → ℕ) → sum_over xs each ≡ sum_to (length xs) (λ i. each (slice_index_or xs i origin))
+pub over_numbers : (xs : List Loc) (each : Loc → ℕ) → sum_over xs each ≡ sum_to (length xs) (λ i. each (slice_index_or xs i origin))
 over_numbers [] each = refl
 over_numbers (x ∷ xs) each =
     let a = over_numbers xs each in

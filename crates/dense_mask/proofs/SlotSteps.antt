@@ -1,5 +1,5 @@
--- The mask that slots in lists are, also after each was changed.
-use Rattle.std.proofs.Common.{◌≡◌, ℕ, ◌+◌, ◌<◌, ◌≤◌, Bool, List, [], ◌∷◌, length, arith, ap, sym, ◌∙◌, ◌++◌}
+-- The mask that slots in lists are.
+use Rattle.std.proofs.Common.{◌≡◌, ℕ, ◌+◌, ◌<◌, Bool, List, [], ◌∷◌, length, arith, ap, sym, ◌∙◌, ◌++◌}
 use Rattle.std.specs.Prelude.{count_by}
 use Rattle.std.specs.List.{enumerate_from, slice_index_or}
 use Rattle.std.proofs.lemmas.List.{get_or-map, length-map}
@@ -13,7 +13,7 @@ use Rattle.mesh_rules.specs.Mask.{Mask, absent, blocks_with, called, checked_slo
 use Rattle.dense_mesh.specs.declared.totals.Slot.{Slot}
 use Rattle.dense_mesh.specs.Masks.{AreSlots, mask_of, slot_in, slot_of}
 use Rattle.dense_mesh.proofs.Tables.{table_at, table_by, table_length, table_same}
-use Rattle.dense_mask.specs.SlotSteps.{AreSlotsBy, FieldsAreChangedTo, no_slot}
+use Rattle.dense_mask.specs.SlotSteps.{AreFieldsBy, AreSlotsBy, no_slot}
 use Rattle.dense_mask.proofs.Leaves.{origin}
 use Rattle.dense_mask.proofs.Pushes.{counts_same, items_push}
 
@@ -49,38 +49,41 @@ pub record AreKept (leaves : List Loc) (fields : ℕ) (rule : ℕ → Loc → �
   pub slots : AreSlots fields (length leaves) new
   pub mask : mask_of (length leaves) new ≡ masked leaves fields rule
 
-pub kept_by : (leaves : List Loc) (fields n : ℕ) (rule : ℕ → Loc → ℕ → mask.Slot) (step : ℕ → ℕ → Slot → mask.Slot) (old new : List (List Slot)) → AreSlots fields (length leaves) old → fields ≤ n → FieldsAreChangedTo step n old new →
-    ((leaf f : ℕ) → leaf < length leaves → f < fields → step f leaf (slot_in old f leaf) ≡ rule leaf (slice_index_or leaves leaf origin) f) → AreKept leaves fields rule new
-kept_by leaves fields n rule step old new had over done same =
-    let many : length new ≡ fields = done.many ∙ had.fields in
-    record {
-      slots = record { fields = many; leaf_slots = λ f some. (done.done f (omega arith)).many ∙ had.leaf_slots f some };
-      mask = mask_is leaves fields rule new many (λ leaf f small some.
-          let long = had.leaf_slots f some in
-          (done.done f (omega arith)).done leaf (omega arith) ∙ same leaf f small some);
-    }
+pub kept_by : (leaves : List Loc) (fields n : ℕ) (rule : ℕ → Loc → ℕ → mask.Slot) (each : ℕ → ℕ → mask.Slot) (new : List (List Slot)) → n ≡ fields → AreFieldsBy n (length leaves) each new →
+    ((leaf f : ℕ) → leaf < length leaves → f < fields → each f leaf ≡ rule leaf (slice_index_or leaves leaf origin) f) → AreKept leaves fields rule new
+kept_by leaves fields n rule each new all are same = record {
+  slots = record { fields = are.fields ∙ all; leaf_slots = λ f some. (are.each_field f (omega arith)).many };
+  mask = mask_is leaves fields rule new (are.fields ∙ all) (λ leaf f small some. (are.each_field f (omega arith)).each_slot leaf small ∙ same leaf f small some);
+}
 
 -- the slots of fields that something calls for
-pub kept_where_called : (leaves : List Loc) (fields n : ℕ) (calls : ℕ → ℕ → Bool) (rule : ℕ → Loc → Bool) (old new : List (List Slot)) → AreSlots fields (length leaves) old → fields ≤ n →
-    FieldsAreChangedTo (λ f leaf s. called (slot_of s) (calls f leaf)) n old new →
+pub kept_where_called : (leaves : List Loc) (fields n : ℕ) (calls : ℕ → ℕ → Bool) (rule : ℕ → Loc → Bool) (old new : List (List Slot)) → AreSlots fields (length leaves) old → n ≡ fields →
+    AreFieldsBy n (length leaves) (λ f leaf. called (slot_of (slot_in old f leaf)) (calls f leaf)) new →
     ((f leaf : ℕ) → f < fields → leaf < length leaves → calls f leaf ≡ rule f (slice_index_or leaves leaf origin)) →
     AreKept leaves fields (λ leaf l f. called (slot_at (mask_of (length leaves) old) leaf f) (rule f l)) new
-kept_where_called leaves fields n calls rule old new had over done same =
+kept_where_called leaves fields n calls rule old new had all are same =
     let many = had.fields in
-    kept_by leaves fields n (λ leaf l f. called (slot_at (mask_of (length leaves) old) leaf f) (rule f l)) (λ f leaf s. called (slot_of s) (calls f leaf)) old new had over done
+    kept_by leaves fields n (λ leaf l f. called (slot_at (mask_of (length leaves) old) leaf f) (rule f l)) (λ f leaf. called (slot_of (slot_in old f leaf)) (calls f leaf)) new all are
     (λ leaf f small some. ap (λ (s : mask.Slot). called s (calls f leaf)) (sym (slot_in_mask (length leaves) old leaf f small (omega arith)))
     ∙ ap (λ (b : Bool). called (slot_at (mask_of (length leaves) old) leaf f) b) (same f leaf some small))
 
 -- the slots of fields that were checked
-pub kept_where_checked : (p : Settings) (leaves : List Loc) (n : ℕ) (idles : ℕ → ℕ → Bool) (rule : ℕ → Loc → Bool) (old new : List (List Slot)) → AreSlots (field_count p) (length leaves) old → field_count p ≤ n →
-    FieldsAreChangedTo (λ f leaf s. checked_slot p f (idles f leaf) (slot_of s)) n old new →
+pub kept_where_checked : (p : Settings) (leaves : List Loc) (n : ℕ) (idles : ℕ → ℕ → Bool) (rule : ℕ → Loc → Bool) (old new : List (List Slot)) → AreSlots (field_count p) (length leaves) old → n ≡ field_count p →
+    AreFieldsBy n (length leaves) (λ f leaf. checked_slot p f (idles f leaf) (slot_of (slot_in old f leaf))) new →
     ((f leaf : ℕ) → f < field_count p → leaf < length leaves → idles f leaf ≡ rule f (slice_index_or leaves leaf origin)) →
     AreKept leaves (field_count p) (λ leaf l f. checked_slot p f (rule f l) (slot_at (mask_of (length leaves) old) leaf f)) new
-kept_where_checked p leaves n idles rule old new had over done same =
+kept_where_checked p leaves n idles rule old new had all are same =
     let many = had.fields in
-    kept_by leaves (field_count p) n (λ leaf l f. checked_slot p f (rule f l) (slot_at (mask_of (length leaves) old) leaf f)) (λ f leaf s. checked_slot p f (idles f leaf) (slot_of s)) old new had over done
+    kept_by leaves (field_count p) n (λ leaf l f. checked_slot p f (rule f l) (slot_at (mask_of (length leaves) old) leaf f)) (λ f leaf. checked_slot p f (idles f leaf) (slot_of (slot_in old f leaf))) new all are
     (λ leaf f small some. ap (λ (s : mask.Slot). checked_slot p f (idles f leaf) s) (sym (slot_in_mask (length leaves) old leaf f small (omega arith)))
     ∙ ap (λ (b : Bool). checked_slot p f b (slot_at (mask_of (length leaves) old) leaf f)) (same f leaf some small))
+
+-- one field more
+pub fields_push : (n leaves : ℕ) (each : ℕ → ℕ → mask.Slot) (lists new : List (List Slot)) (slots : List Slot) → AreFieldsBy n leaves each lists → new ≡ lists ++ slots ∷ [] → AreSlotsBy leaves (each n) slots →
+    AreFieldsBy (n + 1) leaves each new
+fields_push n leaves each lists new slots had is here =
+    let more = items_push (λ f slots. AreSlotsBy leaves (each f) slots) n lists new slots [] (record { many = had.fields; each = had.each_field }) is here in
+    record { fields = more.many; each_field = more.each }
 
 -- one slot more
 pub slots_push : (n : ℕ) (each : ℕ → mask.Slot) (slots new : List Slot) (s : Slot) → AreSlotsBy n each slots → new ≡ slots ++ s ∷ [] → slot_of s ≡ each n → AreSlotsBy (n + 1) each new

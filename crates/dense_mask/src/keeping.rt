@@ -1,27 +1,27 @@
 //! The mask after an exchange, after a reaction, and after a check.
 
-ghost use Rattle.std.specs.Prelude.{◌≡◌, ◌<◌, ℕ, [], false, not, map, length};
+ghost use Rattle.std.specs.Prelude.{◌≡◌, ◌<◌, ℕ, [], false, not, map, length, IfOk};
 ghost use Rattle.std.specs.List.{slice_index_or};
 ghost use Rattle.block_tree.specs.Blocks.{leaves};
 ghost use Rattle.problem_set.specs.SettingsOf.{settings_of};
 ghost use Rattle.sparse_pool.specs.Idle.{idle};
 ghost use Rattle.mesh_rules.specs.Sums.{table};
 ghost use Rattle.mesh_rules.specs.Fields.{field_count};
-ghost use Rattle.mesh_rules.specs.Mask.{called, checked_slot, exchange_calls, kept_by_check, kept_by_exchange, kept_by_reaction, slot_at};
+ghost use Rattle.mesh_rules.specs.Mask.{called, checked_slot, exchange_calls, kept_by_check, kept_by_exchange, kept_by_reaction};
 ghost use Rattle.dense_mesh.specs.Meshes.{IsMeshIn, mesh_of};
-ghost use Rattle.dense_mesh.specs.Masks.{AreSlots, mask_of, slot_of};
-ghost use Rattle.dense_mask.specs.SlotSteps.{AreChanged, checked_by, slot_on};
+ghost use Rattle.dense_mesh.specs.Masks.{AreSlots, mask_of, slot_in, slot_of};
+ghost use Rattle.dense_mask.specs.SlotSteps.{AreSlotsBy, checked_by, slot_on};
 
 use crate::fields::is_sparse;
 use block_layout::Layout;
 use block_tree::Tree;
 use cell_lists::Cells;
 use dense_mesh::{FieldSlots, FieldTotals, Slot};
+use mesh_num::NoMemory;
 use package_fields::Items;
 use problem_set::Problem;
 use sparse_pool::{is_idle, note_check};
 use std::alloc::Global;
-use std::mem;
 
 /// A slot after an exchange that calls for its field there, or does not.
 fn keep_called(slot: Slot, calls: bool) -> Slot
@@ -72,76 +72,83 @@ fn check_slot(slot: Slot, cells: &[u64], threshold: u64, limit: u32) -> Slot
 }
 
 /// A field's slots after an exchange, of which is said for each leaf whether it calls for the field there.
-fn keep_called_slots(calls: &[bool], slots: Vec<Slot>) -> Vec<Slot>
-    requires { length calls.now ≡ length slots.items }
-    ensures { AreChanged (λ leaf slot. called (slot_of slot) (slice_index_or calls.now leaf false)) slots.items result.items }
+fn keep_called_slots(alloc: Global, calls: &[bool], slots: &[Slot]) -> Result<FieldSlots, NoMemory>
+    requires { length calls.now ≡ length slots.now }
+    ensures { IfOk result (λ new. AreSlotsBy (length slots.now) (λ leaf. called (slot_of (slot_on slots.now leaf)) (slice_index_or calls.now leaf false)) new) }
 {
-    let mut slots = slots;
-    for leaf in 0..calls.len() {
-        slots[leaf] = keep_called(slots[leaf], calls[leaf]);
+    let mut new = Vec::with_capacity(alloc, slots.len())?;
+    for leaf in 0..slots.len() {
+        new.push(keep_called(slots[leaf], calls[leaf]))?;
     }
-    slots
+    Ok(FieldSlots::from_vec(new))
 }
 
 /// A field's slots after a reaction that left these totals on each leaf.
-fn keep_above_slots(list: &[Cells], threshold: u64, slots: Vec<Slot>) -> Vec<Slot>
-    requires { length list.now ≡ length slots.items }
-    ensures { AreChanged (λ leaf slot. called (slot_of slot) (not (idle (slice_index_or list.now leaf []) threshold))) slots.items result.items }
+fn keep_above_slots(
+    alloc: Global,
+    list: &[Cells],
+    threshold: u64,
+    slots: &[Slot],
+) -> Result<FieldSlots, NoMemory>
+    requires { length list.now ≡ length slots.now }
+    ensures { IfOk result (λ new. AreSlotsBy (length slots.now) (λ leaf. called (slot_of (slot_on slots.now leaf)) (not (idle (slice_index_or list.now leaf []) threshold))) new) }
 {
-    let mut slots = slots;
-    for leaf in 0..list.len() {
-        slots[leaf] = keep_above(slots[leaf], list[leaf].as_slice(), threshold);
+    let mut new = Vec::with_capacity(alloc, slots.len())?;
+    for leaf in 0..slots.len() {
+        new.push(keep_above(slots[leaf], list[leaf].as_slice(), threshold))?;
     }
-    slots
+    Ok(FieldSlots::from_vec(new))
 }
 
 /// A sparse field's slots after a check that finds these totals on each leaf.
-fn check_slots(list: &[Cells], threshold: u64, limit: u32, slots: Vec<Slot>) -> Vec<Slot>
-    requires leaves { length list.now ≡ length slots.items }
-    requires idle { (leaf : ℕ) → leaf < length slots.items → (slot_on slots.items leaf).idle < limit }
-    ensures { AreChanged (λ leaf slot. checked_by limit (idle (slice_index_or list.now leaf []) threshold) (slot_of slot)) slots.items result.items }
+fn check_slots(
+    alloc: Global,
+    list: &[Cells],
+    threshold: u64,
+    limit: u32,
+    slots: &[Slot],
+) -> Result<FieldSlots, NoMemory>
+    requires leaves { length list.now ≡ length slots.now }
+    requires idle { (leaf : ℕ) → leaf < length slots.now → (slot_on slots.now leaf).idle < limit }
+    ensures { IfOk result (λ new. AreSlotsBy (length slots.now) (λ leaf. checked_by limit (idle (slice_index_or list.now leaf []) threshold) (slot_of (slot_on slots.now leaf))) new) }
 {
-    let mut slots = slots;
-    for leaf in 0..list.len() {
-        slots[leaf] = check_slot(slots[leaf], list[leaf].as_slice(), threshold, limit);
+    let mut new = Vec::with_capacity(alloc, slots.len())?;
+    for leaf in 0..slots.len() {
+        new.push(check_slot(slots[leaf], list[leaf].as_slice(), threshold, limit))?;
     }
-    slots
+    Ok(FieldSlots::from_vec(new))
 }
 
-/// Changes a field's slots by an exchange.
-fn keep_called_field(alloc: Global, calls: &[bool], slots: &mut FieldSlots)
-    requires { length calls.now ≡ length slots.old }
-    ensures { AreChanged (λ leaf slot. called (slot_of slot) (slice_index_or calls.now leaf false)) slots.old slots.new }
-{
-    let old = mem::replace(slots, FieldSlots::new(alloc));
-    *slots = FieldSlots::from_vec(keep_called_slots(calls, old.into_vec()));
-}
-
-/// Changes a field's slots by a reaction.
-fn keep_above_field(alloc: Global, list: &[Cells], threshold: u64, slots: &mut FieldSlots)
-    requires { length list.now ≡ length slots.old }
-    ensures { AreChanged (λ leaf slot. called (slot_of slot) (not (idle (slice_index_or list.now leaf []) threshold))) slots.old slots.new }
-{
-    let old = mem::replace(slots, FieldSlots::new(alloc));
-    *slots = FieldSlots::from_vec(keep_above_slots(list, threshold, old.into_vec()));
-}
-
-/// Changes a field's slots by a check, which leaves a field that is not sparse as it is.
-fn check_field(alloc: Global, problem: &Problem, field: u32, list: &[Cells], slots: &mut FieldSlots)
+/// A field's slots after a check, which leaves a field that is not sparse as it is.
+fn check_field(
+    alloc: Global,
+    problem: &Problem,
+    field: u32,
+    list: &[Cells],
+    slots: &[Slot],
+) -> Result<FieldSlots, NoMemory>
     requires field { field < field_count (settings_of problem.now) }
-    requires leaves { length list.now ≡ length slots.old }
-    requires idle { (leaf : ℕ) → leaf < length slots.old → (slot_on slots.old leaf).idle < problem.now.dealloc_count }
-    ensures { AreChanged (λ leaf slot. checked_slot (settings_of problem.now) field (idle (slice_index_or list.now leaf []) problem.now.dealloc_threshold) (slot_of slot)) slots.old slots.new }
+    requires leaves { length list.now ≡ length slots.now }
+    requires idle { (leaf : ℕ) → leaf < length slots.now → (slot_on slots.now leaf).idle < problem.now.dealloc_count }
+    ensures { IfOk result (λ new. AreSlotsBy (length slots.now) (λ leaf. checked_slot (settings_of problem.now) field (idle (slice_index_or list.now leaf []) problem.now.dealloc_threshold) (slot_of (slot_on slots.now leaf))) new) }
 {
-    if is_sparse(problem, field) {
-        let old = mem::replace(slots, FieldSlots::new(alloc));
-        *slots = FieldSlots::from_vec(check_slots(
-            list,
-            problem.dealloc_threshold,
-            problem.dealloc_count,
-            old.into_vec(),
-        ));
+    if !is_sparse(problem, field) {
+        return copy_slots(alloc, slots);
     }
+    check_slots(
+        alloc,
+        list,
+        problem.dealloc_threshold,
+        problem.dealloc_count,
+        slots,
+    )
+}
+
+/// The same slots.
+fn copy_slots(alloc: Global, slots: &[Slot]) -> Result<FieldSlots, NoMemory>
+    ensures { IfOk result (λ new. new ≡ slots.now) }
+{
+    Ok(FieldSlots::from_slice(alloc, slots)?)
 }
 
 /// The mask after the exchange of a stage, of which `calls` says for each field and each leaf whether it calls for the field
@@ -152,18 +159,19 @@ pub fn keep_by_exchange(
     tree: &Tree,
     lists: &[FieldTotals],
     calls: &[Items<bool>],
-    slots: Vec<FieldSlots>,
-) -> Vec<FieldSlots>
+    slots: &[FieldSlots],
+) -> Result<Vec<FieldSlots>, NoMemory>
     requires calls { let p = settings_of problem.now in let m = mesh_of tree.now problem.now.cells lists.now in calls.now ≡ table (field_count p) (λ f. map (exchange_calls p m f) m.leaves) }
-    requires slots { AreSlots (field_count (settings_of problem.now)) (length (leaves tree.now)) slots.items }
-    ensures mask { let p = settings_of problem.now in let leaves = length (leaves tree.now) in mask_of leaves result.items ≡ kept_by_exchange p (mesh_of tree.now problem.now.cells lists.now) (mask_of leaves slots.items) }
-    ensures slots { AreSlots (field_count (settings_of problem.now)) (length (leaves tree.now)) result.items }
+    requires slots { AreSlots (field_count (settings_of problem.now)) (length (leaves tree.now)) slots.now }
+    ensures mask { let p = settings_of problem.now in let n = length (leaves tree.now) in IfOk result (λ new. mask_of n new.items ≡ kept_by_exchange p (mesh_of tree.now problem.now.cells lists.now) (mask_of n slots.now)) }
+    ensures slots { IfOk result (λ new. AreSlots (field_count (settings_of problem.now)) (length (leaves tree.now)) new.items) }
 {
-    let mut slots = slots;
-    for field in 0..calls.len() {
-        keep_called_field(alloc, calls[field].as_slice(), &mut slots[field]);
+    let mut new = Vec::with_capacity(alloc, slots.len())?;
+    for field in 0..slots.len() {
+        let old = slots[field].as_slice();
+        new.push(keep_called_slots(alloc, calls[field].as_slice(), old)?)?;
     }
-    slots
+    Ok(new)
 }
 
 /// The mask after the reactions that leave this mesh: a field is kept from now on where some total of it is above the problem's
@@ -174,19 +182,20 @@ pub fn keep_by_reaction(
     tree: &Tree,
     layout: &Layout,
     lists: &[FieldTotals],
-    slots: Vec<FieldSlots>,
-) -> Vec<FieldSlots>
+    slots: &[FieldSlots],
+) -> Result<Vec<FieldSlots>, NoMemory>
     requires mesh { IsMeshIn (settings_of problem.now) tree.now layout.now lists.now }
-    requires slots { AreSlots (field_count (settings_of problem.now)) (length (leaves tree.now)) slots.items }
-    ensures mask { let p = settings_of problem.now in let leaves = length (leaves tree.now) in mask_of leaves result.items ≡ kept_by_reaction p (mesh_of tree.now problem.now.cells lists.now) (mask_of leaves slots.items) }
-    ensures slots { AreSlots (field_count (settings_of problem.now)) (length (leaves tree.now)) result.items }
+    requires slots { AreSlots (field_count (settings_of problem.now)) (length (leaves tree.now)) slots.now }
+    ensures mask { let p = settings_of problem.now in let n = length (leaves tree.now) in IfOk result (λ new. mask_of n new.items ≡ kept_by_reaction p (mesh_of tree.now problem.now.cells lists.now) (mask_of n slots.now)) }
+    ensures slots { IfOk result (λ new. AreSlots (field_count (settings_of problem.now)) (length (leaves tree.now)) new.items) }
 {
-    let mut slots = slots;
-    for field in 0..lists.len() {
+    let mut new = Vec::with_capacity(alloc, slots.len())?;
+    for field in 0..slots.len() {
+        let old = slots[field].as_slice();
         let list = lists[field].as_slice();
-        keep_above_field(alloc, list, problem.alloc_threshold, &mut slots[field]);
+        new.push(keep_above_slots(alloc, list, problem.alloc_threshold, old)?)?;
     }
-    slots
+    Ok(new)
 }
 
 /// The mask after the check of this mesh: a sparse field is freed where no total of it was above the problem's threshold for that
@@ -197,18 +206,19 @@ pub fn keep_by_check(
     tree: &Tree,
     layout: &Layout,
     lists: &[FieldTotals],
-    slots: Vec<FieldSlots>,
-) -> Vec<FieldSlots>
+    slots: &[FieldSlots],
+) -> Result<Vec<FieldSlots>, NoMemory>
     requires mesh { IsMeshIn (settings_of problem.now) tree.now layout.now lists.now }
-    requires slots { AreSlots (field_count (settings_of problem.now)) (length (leaves tree.now)) slots.items }
-    requires idle { (leaf f : ℕ) → leaf < length (leaves tree.now) → f < field_count (settings_of problem.now) → (slot_at (mask_of (length (leaves tree.now)) slots.items) leaf f).idle < problem.now.dealloc_count }
-    ensures mask { let p = settings_of problem.now in let leaves = length (leaves tree.now) in mask_of leaves result.items ≡ kept_by_check p (mesh_of tree.now problem.now.cells lists.now) (mask_of leaves slots.items) }
-    ensures slots { AreSlots (field_count (settings_of problem.now)) (length (leaves tree.now)) result.items }
+    requires slots { AreSlots (field_count (settings_of problem.now)) (length (leaves tree.now)) slots.now }
+    requires fresh { (leaf f : ℕ) → leaf < length (leaves tree.now) → f < field_count (settings_of problem.now) → (slot_in slots.now f leaf).idle < problem.now.dealloc_count }
+    ensures mask { let p = settings_of problem.now in let n = length (leaves tree.now) in IfOk result (λ new. mask_of n new.items ≡ kept_by_check p (mesh_of tree.now problem.now.cells lists.now) (mask_of n slots.now)) }
+    ensures slots { IfOk result (λ new. AreSlots (field_count (settings_of problem.now)) (length (leaves tree.now)) new.items) }
 {
-    let mut slots = slots;
-    for field in 0..lists.len() {
+    let mut new = Vec::with_capacity(alloc, slots.len())?;
+    for field in 0..slots.len() {
+        let old = slots[field].as_slice();
         let list = lists[field].as_slice();
-        check_field(alloc, problem, field as u32, list, &mut slots[field]);
+        new.push(check_field(alloc, problem, field as u32, list, old)?)?;
     }
-    slots
+    Ok(new)
 }

@@ -3,8 +3,8 @@ use Rattle.std.specs.List.{slice_index_or}
 use Rattle.sparse_pool.specs.Idle.{idle}
 use Rattle.mesh_rules.specs.Mask.{called}
 use Rattle.dense_mesh.specs.Masks.{slot_of}
-use Rattle.dense_mask.specs.SlotSteps.{AreChangedTo}
+use Rattle.dense_mask.specs.SlotSteps.{AreSlotsBy, slot_on}
 use Rattle.dense_mask.proofs.keeping.keep_above_slots.Given as goal
 
 abbrev pub invariant-loop-leaf : goal.invariant-loop-leaf
-invariant-loop-leaf l = AreChangedTo (λ leaf slot. called (slot_of slot) (not (idle (slice_index_or l.list leaf []) l.threshold))) l.leaf l.fn.slots.items l.slots.items
+invariant-loop-leaf l = AreSlotsBy l.leaf (λ leaf. called (slot_of (slot_on l.slots leaf)) (not (idle (slice_index_or l.list leaf []) l.threshold))) l.new.items
