@@ -1,0 +1,14 @@
+mod Bounds
+mod Boxes
+mod CarriedMasks
+mod Counters
+mod Families
+mod Halves
+mod LeafLists
+mod Near
+mod Numbers
+mod Openings
+mod Pushed
+mod Spreads
+mod StartBoxes
+mod Taken

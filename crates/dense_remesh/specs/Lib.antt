@@ -1,0 +1,5 @@
+pub mod Lists
+pub mod Origins
+pub mod Parts
+pub mod StartBoxes
+pub mod Slots
