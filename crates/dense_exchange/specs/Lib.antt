@@ -1,0 +1,3 @@
+pub mod FieldMeshes
+pub mod Sides
+pub mod Leaves
