@@ -1,6 +1,6 @@
 //! What does not stay is made zero.
 
-ghost use Rattle.std.specs.Prelude.{◌≡◌, ◌<◌, ◌^◌, ℕ, [], cond, IfOk, length, replicate, sum};
+ghost use Rattle.std.specs.Prelude.{◌≡◌, ◌<◌, ◌^◌, ℕ, [], cond, IfOk, length, sum};
 ghost use Rattle.std.specs.List.{slice_index_or};
 ghost use Rattle.block_tree.specs.Blocks.{leaves};
 ghost use Rattle.problem_set.specs.SettingsOf.{settings_of};

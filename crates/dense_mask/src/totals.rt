@@ -1,6 +1,6 @@
 //! The total of a field on a whole mesh.
 
-ghost use Rattle.std.specs.Prelude.{◌≡◌, ◌<◌, ◌≤◌, ◌^◌, ◌-◌, length, sum, List};
+ghost use Rattle.std.specs.Prelude.{◌≡◌, ◌<◌, ◌≤◌, ◌^◌, ◌-◌, sum};
 ghost use Rattle.problem_set.specs.SettingsOf.{settings_of};
 ghost use Rattle.mesh_rules.specs.Fields.{field_count};
 ghost use Rattle.mesh_rules.specs.Mesh.{total_of};

@@ -1,0 +1,5 @@
+mod Cells
+mod Rows
+mod Gains
+mod MeshCells
+mod LeafSteps
