@@ -14,8 +14,8 @@ use Rattle.block_geometry.specs.Contents.{HasInterior, SeesAround, SeesBeyondSid
 use Rattle.dense_mesh.specs.Ghosts.{SeeMesh, block_at, list_at}
 use Rattle.dense_exchange.specs.declared.field_mesh.FieldMesh.{FieldMesh}
 use Rattle.dense_exchange.specs.FieldMeshes.{CanExchange, HoldOwn, block_on, leaf_count, leaf_on, mesh_in, settings_in}
-use Rattle.dense_exchange.specs.Sides.{IsFilled, OthersStay}
-use Rattle.dense_exchange.specs.Leaves.{AreFilled, IsLeafFilled, comes_along, comes_beyond, comes_by, comes_to_leaf}
+use Rattle.dense_exchange.specs.Sides.{IsFilled, OthersStay, comes_beyond}
+use Rattle.dense_exchange.specs.Leaves.{AreFilled, IsLeafFilled, comes_along, comes_by, comes_to_leaf}
 use Rattle.dense_exchange.proofs.Numbers.{nowhere}
 
 -- the sides of a leaf along an axis

@@ -1,19 +1,15 @@
 -- What filling the ghosts of leaves leaves.
 use Rattle.std.specs.Prelude.{ℕ, ◌<◌, Bool, true, false, ◌||◌, List, map}
 use Rattle.std.specs.List.{list_any, range_with_len}
-use Rattle.morton_order.specs.declared.space.Side.{Side}
 use Rattle.block_tree.specs.Blocks.{leaves}
-use Rattle.mesh_rules.specs.Mask.{comes_across, exchange_calls}
+use Rattle.mesh_rules.specs.Mask.{exchange_calls}
 use Rattle.block_geometry.specs.Contents.{SeesAround}
 use Rattle.dense_mesh.specs.Ghosts.{list_at}
 use Rattle.dense_exchange.specs.declared.field_mesh.FieldMesh.{FieldMesh}
-use Rattle.dense_exchange.specs.FieldMeshes.{HoldOwn, block_on, leaf_count, leaf_on, mesh_in, settings_in}
-use Rattle.dense_exchange.specs.Sides.{OthersStay, behind_leaf}
+use Rattle.dense_exchange.specs.FieldMeshes.{HoldOwn, block_on, leaf_count, mesh_in, settings_in}
+use Rattle.dense_exchange.specs.Sides.{OthersStay, comes_beyond}
 
--- whether something above the threshold comes to a leaf across a side, and across either side of one of the first axes
-abbrev pub comes_beyond : FieldMesh → Side → ℕ → Bool
-comes_beyond e side to = comes_across (settings_in e) (mesh_in e) e.field (leaf_on e to) side.axis side.high (behind_leaf e side to)
-
+-- whether something above the threshold comes to a leaf across either side of an axis, of one of the first axes, and of any
 abbrev pub comes_along : FieldMesh → ℕ → ℕ → Bool
 comes_along e to axis = comes_beyond e (record { axis = axis; high = false }) to || comes_beyond e (record { axis = axis; high = true }) to
 

@@ -4,6 +4,7 @@ use Rattle.morton_order.specs.declared.space.Loc.{Loc}
 use Rattle.morton_order.specs.declared.space.Side.{Side}
 use Rattle.morton_order.specs.Space.{child_number}
 use Rattle.block_tree.specs.Behind.{Behind, coarse, fine, same}
+use Rattle.mesh_rules.specs.Mask.{comes_across}
 use Rattle.mesh_rules.specs.Regions.{region}
 use Rattle.block_geometry.specs.Contents.{SeesBeyondSide}
 use Rattle.block_regions.specs.Written.{StaysOffRegion}
@@ -14,11 +15,15 @@ use Rattle.dense_mesh.specs.Ghosts.{list_at}
 use Rattle.letter_laws.specs.Sides.{behind_side, side_part}
 use Rattle.letter_laws.specs.Ghosts.{IsGiven}
 use Rattle.dense_exchange.specs.declared.field_mesh.FieldMesh.{FieldMesh}
-use Rattle.dense_exchange.specs.FieldMeshes.{HoldOwn, block_on, leaf_on, mesh_in}
+use Rattle.dense_exchange.specs.FieldMeshes.{HoldOwn, block_on, leaf_on, mesh_in, settings_in}
 
 -- what stands behind a side of a leaf
 abbrev pub behind_leaf : FieldMesh → Side → ℕ → Behind
 behind_leaf e side to = behind_side (block_on e to) side.axis side.high
+
+-- whether something above the threshold comes to a leaf across a side
+abbrev pub comes_beyond : FieldMesh → Side → ℕ → Bool
+comes_beyond e side to = comes_across (settings_in e) (mesh_in e) e.field (leaf_on e to) side.axis side.high (behind_leaf e side to)
 
 -- what a leaf sends to another one across a side of it
 abbrev pub sent_to : FieldMesh → Side → ℕ → ℕ → List ℕ

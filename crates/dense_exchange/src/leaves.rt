@@ -33,7 +33,8 @@ fn copy_all(on: &FieldMesh, ghosts: &mut Vec<Cells>)
     }
 }
 
-/// Fills the ghosts of a leaf beyond all its sides, and answers whether something above the threshold comes across one of them.
+/// Fills the ghosts of a leaf beyond all its sides, and answers whether something above the threshold comes across one
+/// of them.
 fn fill_leaf(
     alloc: Global,
     on: &FieldMesh,
@@ -71,9 +72,9 @@ fn fill_all(alloc: Global, on: &FieldMesh, ghosts: &mut Vec<Cells>) -> Result<It
     Ok(calls)
 }
 
-/// Fills a list with ghosts for each leaf with a field of a mesh: the leaf's own cells, and beyond each of its sides what the
-/// mesh shows there in both layers. Answers for each leaf whether the exchange calls for the field there: whether the field has
-/// ghost zones, and a total above the threshold comes across a side.
+/// Fills a list with ghosts for each leaf with a field of a mesh: the leaf's own cells, and beyond each of its sides
+/// what the mesh shows there in both layers. Answers for each leaf whether the exchange calls for the field there:
+/// whether the field has ghost zones, and a total above the threshold comes across a side.
 ///
 /// `lists` has the totals by field and leaf, in blocks of the layout. The ghosts at the corners stay as they are.
 pub fn exchange(
@@ -88,10 +89,10 @@ pub fn exchange(
     requires mesh { IsMeshIn (settings_of problem.now) tree.now layout.now lists.now }
     requires field { field < length problem.now.moves }
     requires ghosts { AreGhostLists layout.now (length (leaves tree.now)) ghosts.old.items }
-    ensures sees { OnOk result
-        (SeeMesh (settings_of problem.now) (mesh_of tree.now problem.now.cells lists.now) layout.now field ghosts.new.items) }
-    ensures calls { IfOk result (λ calls. calls
-        ≡ map (exchange_calls (settings_of problem.now) (mesh_of tree.now problem.now.cells lists.now) field) (leaves tree.now)) }
+    ensures sees { OnOk result (SeeMesh (settings_of problem.now) (mesh_of tree.now problem.now.cells lists.now)
+        layout.now field ghosts.new.items) }
+    ensures calls { IfOk result (λ calls. calls ≡ map
+        (exchange_calls (settings_of problem.now) (mesh_of tree.now problem.now.cells lists.now) field) (leaves tree.now)) }
 {
     let on = FieldMesh {
         problem,

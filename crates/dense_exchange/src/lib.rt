@@ -1,7 +1,7 @@
 //! The ghost zones of all blocks of a mesh, for one field.
 //!
-//! [`exchange`] fills them from the totals of the mesh: each leaf gets its own cells, then beyond each of its sides what the
-//! leaves behind it send, or what stands outside of the domain. What it fills is what the mesh shows there.
+//! [`exchange`] fills them from the totals of the mesh: each leaf gets its own cells, then beyond each of its sides
+//! what the leaves behind it send, or what stands outside of the domain. What it fills is what the mesh shows there.
 #![tactic(auto)]
 
 mod field_mesh;

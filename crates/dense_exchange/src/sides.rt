@@ -1,11 +1,11 @@
 //! The ghosts beyond one side of a leaf.
 
 ghost use Rattle.std.specs.Prelude.{◌≡◌, ◌<◌, IfOk, OnOk, All, map};
-ghost use Rattle.mesh_rules.specs.Mask.{comes_across, some_above};
+ghost use Rattle.mesh_rules.specs.Mask.{some_above};
 ghost use Rattle.std.specs.List.{list_any};
 ghost use Rattle.block_tree.specs.Behind.{fine, outside};
-ghost use Rattle.dense_exchange.specs.FieldMeshes.{CanExchange, HoldOwn, leaf_count, leaf_on, mesh_in, settings_in};
-ghost use Rattle.dense_exchange.specs.Sides.{IsFilled, IsReceived, IsSender, behind_leaf, sent_to};
+ghost use Rattle.dense_exchange.specs.FieldMeshes.{CanExchange, HoldOwn, leaf_count, leaf_on};
+ghost use Rattle.dense_exchange.specs.Sides.{IsFilled, IsReceived, IsSender, behind_leaf, comes_beyond, sent_to};
 
 use crate::field_mesh::FieldMesh;
 use crate::parts::{has_above, side_part};
@@ -17,7 +17,8 @@ use ghost_buffers::{How, fill};
 use morton_order::Side;
 use std::alloc::Global;
 
-/// Fills the ghosts of a leaf that a sender behind its side gives, and answers whether a total above the threshold comes.
+/// Fills the ghosts of a leaf that a sender behind its side gives, and answers whether a total above the threshold
+/// comes.
 fn receive(
     alloc: Global,
     on: &FieldMesh,
@@ -36,7 +37,8 @@ fn receive(
     requires sender { IsSender on.now how half side from to }
     requires ghosts { HoldOwn on.now ghosts.old.items }
     ensures received { OnOk result (IsReceived on.now how half side from to ghosts.old.items ghosts.new.items) }
-    ensures above { IfOk result (λ above. above ≡ some_above on.now.problem.now.alloc_threshold (sent_to on.now side from to)) }
+    ensures above { IfOk result (λ above. above
+        ≡ some_above on.now.problem.now.alloc_threshold (sent_to on.now side from to)) }
 {
     let opposite = Side {
         axis: side.axis,
@@ -61,7 +63,8 @@ fn receive(
     Ok(has_above(part.as_slice(), on.problem.alloc_threshold))
 }
 
-/// Fills the ghosts of a leaf beyond a face of the domain, and answers whether what stands there is above the threshold.
+/// Fills the ghosts of a leaf beyond a face of the domain, and answers whether what stands there is above the
+/// threshold.
 fn receive_outside(on: &FieldMesh, side: Side, to: u32, ghosts: &mut Vec<Cells>) -> bool
     requires on { CanExchange on.now }
     requires axis { side.axis < on.now.layout.now.dims }
@@ -69,14 +72,15 @@ fn receive_outside(on: &FieldMesh, side: Side, to: u32, ghosts: &mut Vec<Cells>)
     requires face { behind_leaf on.now side to ≡ outside }
     requires ghosts { HoldOwn on.now ghosts.old.items }
     ensures filled { IsFilled on.now side to ghosts.old.items ghosts.new.items }
-    ensures above { result ≡ comes_across (settings_in on.now) (mesh_in on.now) on.now.field (leaf_on on.now to) side.axis side.high outside }
+    ensures above { result ≡ comes_beyond on.now side to }
 {
     let total = ghost_of(on.problem, on.field, side, on.tree.leaf_at(to).level);
     give_outside(on.layout, side, total, &mut ghosts[to as usize]);
     on.problem.alloc_threshold < total
 }
 
-/// Fills the ghosts of a leaf by the finer leaves behind its side, and answers whether a total above the threshold comes.
+/// Fills the ghosts of a leaf by the finer leaves behind its side, and answers whether a total above the threshold
+/// comes.
 fn receive_finer(
     alloc: Global,
     on: &FieldMesh,
@@ -118,8 +122,7 @@ pub(crate) fn fill_side(
     requires to { to < leaf_count on.now }
     requires ghosts { HoldOwn on.now ghosts.old.items }
     ensures filled { OnOk result (IsFilled on.now side to ghosts.old.items ghosts.new.items) }
-    ensures above { IfOk result (λ above. above
-        ≡ comes_across (settings_in on.now) (mesh_in on.now) on.now.field (leaf_on on.now to) side.axis side.high (behind_leaf on.now side to)) }
+    ensures above { IfOk result (λ above. above ≡ comes_beyond on.now side to) }
 {
     match on.tree.behind(to, side) {
         Behind::Outside => Ok(receive_outside(on, side, to, ghosts)),

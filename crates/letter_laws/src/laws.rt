@@ -12,8 +12,8 @@ pub fn part_laws()
     ensures coarser { CoarserSends }
 {}
 
-/// The ghosts that the region of a sender gives, or what stands outside of the domain, are what the mesh sees beyond a side. The
-/// finer senders behind a side cover all of it.
+/// The ghosts that the region of a sender gives, or what stands outside of the domain, are what the mesh sees beyond a
+/// side. The finer senders behind a side cover all of it.
 pub fn seen_laws()
     ensures outside { OutsideSees }
     ensures same { SameSees }
@@ -22,8 +22,9 @@ pub fn seen_laws()
     ensures coarser { CoarserSees }
 {}
 
-/// No look in a cell of the domain, and no total of a region, is above the field's total of the mesh; so the sums of a finer sender
-/// are below each bound that this total is below, and ghosts that are written by totals below a bound leave a list below it.
+/// No look in a cell of the domain, and no total of a region, is above the field's total of the mesh; so the sums of a
+/// finer sender are below each bound that this total is below, and ghosts that are written by totals below a bound
+/// leave a list below it.
 pub fn bound_laws()
     ensures looks { LooksAreBounded }
     ensures regions { RegionsAreBounded }
@@ -31,8 +32,8 @@ pub fn bound_laws()
     ensures written { WrittenStayBelow }
 {}
 
-/// What is written into the ghosts beyond a side leaves the block's own cells as they were, and the ghosts beyond its other sides;
-/// and what is written into a part of them those of the other parts.
+/// What is written into the ghosts beyond a side leaves the block's own cells as they were, and the ghosts beyond its
+/// other sides; and what is written into a part of them those of the other parts.
 pub fn stay_laws()
     ensures interior { InteriorStays }
     ensures sides { SidesStay }

@@ -6,7 +6,7 @@ use Rattle.block_tree.specs.Blocks.{leaves}
 use Rattle.mesh_rules.specs.Mask.{some_above}
 use Rattle.dense_exchange.specs.FieldMeshes.{leaf_on}
 use Rattle.dense_exchange.specs.Sides.{behind_leaf, sent_to}
-use Rattle.dense_exchange.proofs.Arms.{coarse_above, comes_to, fine_above, outside_above, same_above, told_coarse, told_fine, told_outside, told_same}
+use Rattle.dense_exchange.proofs.Arms.{coarse_above, comes_to, fine_above, same_above, told_coarse, told_fine, told_outside, told_same}
 use Rattle.dense_exchange.proofs.Filled.{coarser_fills, part_found, same_fills}
 use Rattle.dense_exchange.proofs.Numbers.{nowhere}
 use Rattle.dense_exchange.proofs.sides.fill_side.Goals as goal
@@ -35,9 +35,6 @@ receive_finer-requires-clause-listed c = (told_fine c.args.on.now c.args.side c.
 
 pub receive_finer-requires-clause-senders : goal.receive_finer-requires-clause-senders
 receive_finer-requires-clause-senders c = (told_fine c.args.on.now c.args.side c.args.to c.in-Fine.senders c.requires.to c.in-Fine.ensures).is
-
-pub returns-in-Outside-clause-above : goal.returns-in-Outside-clause-above
-returns-in-Outside-clause-above c = c.receive_outside.ensures.above ∙ outside_above c.args.on.now c.args.side c.args.to (told_outside c.args.on.now c.args.side c.args.to c.requires.to c.in-Outside.ensures)
 
 pub returns-in-Same-clause-filled : goal.returns-in-Same-clause-filled
 returns-in-Same-clause-filled c =

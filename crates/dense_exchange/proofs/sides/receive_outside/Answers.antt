@@ -7,6 +7,7 @@ use Rattle.mesh_rules.specs.Fields as fields
 use Rattle.dense_exchange.specs.FieldMeshes.{settings_in}
 use Rattle.dense_exchange.proofs.Numbers.{nowhere}
 use Rattle.dense_exchange.proofs.OnMeshes.{leaf_of, read_list, read_long}
+use Rattle.dense_exchange.proofs.Arms.{outside_above}
 use Rattle.dense_exchange.proofs.Filled.{outside_fills}
 use Rattle.dense_exchange.proofs.sides.receive_outside.Goals as goal
 
@@ -34,3 +35,4 @@ returns-clause-above c =
     let e = c.args.on.now in
     ap (nat_lt e.problem.now.alloc_threshold)
     (c.ghost_of-total.ensures ∙ ap (λ l. fields.outside (settings_in e) e.field c.args.side.axis c.args.side.high l.level) (sym (get_or_from_slice_get (leaves e.tree.now) c.args.to c.leaf_at.result nowhere c.leaf_at.ensures)))
+    ∙ outside_above e c.args.side c.args.to c.requires.face
