@@ -1,0 +1,3 @@
+mod Measured
+mod Scaled
+mod Wishes

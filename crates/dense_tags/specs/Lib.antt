@@ -1,0 +1,2 @@
+pub mod LeafTags
+pub mod LeafWishes

@@ -1,0 +1,6 @@
+use Rattle.std.proofs.Common.{◌≡◌, slice_index}
+use Rattle.mesh_rules.specs.Sums.{greatest_to}
+use Rattle.refine_tags.proofs.rows.greatest.Given as goal
+
+abbrev pub invariant-loop-x : goal.invariant-loop-x
+invariant-loop-x l = l.best ≡ greatest_to l.x (slice_index l.row)
