@@ -1,0 +1,16 @@
+pub mod RateFits
+pub mod Items
+pub mod Behinds
+pub mod Children
+pub mod SideSums
+pub mod LeafFlows
+pub mod Fluxes
+pub mod LeafOwn
+pub mod PartPut
+pub mod SmallSums
+pub mod PartSteps
+pub mod SideDone
+pub mod LeavesDone
+pub mod Staged
+pub mod GhostLists
+pub mod Premises

@@ -1,0 +1,16 @@
+//! A stage of one field on a whole mesh in lists.
+//!
+//! [`advance`] takes the lists of the leaves, whose ghosts are filled, through the kernels of a block: what passes the faces of each
+//! leaf, flux correction where finer leaves stand behind a side, what flows through the faces of the domain, and the update.
+#![tactic(auto)]
+
+mod corrections;
+mod domain;
+mod face_lists;
+mod own_fluxes;
+mod rates;
+mod stage;
+mod staging;
+
+pub use face_lists::FaceLists;
+pub use stage::{Advanced, advance};

@@ -1,0 +1,130 @@
+//! What passes the faces of each leaf by its own cells and ghosts.
+
+ghost use Rattle.std.specs.Prelude.{◌≡◌, ◌<◌, ◌≤◌, ◌+◌, ◌^◌, ℕ, List, All, IsTrue, Some, length, slice_get};
+ghost use Rattle.morton_order.specs.declared.space.Loc.{Loc};
+ghost use Rattle.problem_set.specs.SettingsOf.{settings_of};
+ghost use Rattle.block_tree.specs.Blocks.{is_inner_of, leaves};
+ghost use Rattle.block_layout.specs.Layouts.{len};
+ghost use Rattle.block_layout.specs.Faces.{face_count};
+ghost use Rattle.block_geometry.specs.Contents.{HasInterior, SeesAround};
+ghost use Rattle.upwind_fluxes.specs.declared.donor.Donor.TheVariants.{Below, Above};
+ghost use Rattle.upwind_fluxes.specs.Fluxes.{AreFluxes};
+ghost use Rattle.upwind_fluxes.specs.Rates.{AreProper};
+ghost use Rattle.slope_kernel.specs.Slopes.{AreSlopeFluxes};
+ghost use Rattle.mesh_rules.specs.Fields.{moves_at};
+ghost use Rattle.dense_mesh.specs.Ghosts.{SeeMesh, list_at};
+ghost use Rattle.dense_stage.specs.Blocks.{AreBelow, HasOwn, HaveOwn, IsSoundMesh, OnLeaves, block_in, field_on, mesh_in};
+ghost use Rattle.dense_stage.specs.Faces.{AreFaceLists};
+ghost use Rattle.dense_stage.specs.Rates.{AreFluxesBy, FitOrder};
+
+use crate::face_lists::FaceLists;
+use crate::rates::{closed_sides, level_rates};
+use block_layout::Layout;
+use block_tree::Tree;
+use cell_lists::Cells;
+use problem_set::Problem;
+use slope_kernel::slope_fluxes;
+use upwind_fluxes::{LevelRates, fluxes};
+
+/// Writes what passes every face of a block, by the first or the second order.
+fn block_fluxes(
+    layout: &Layout,
+    order: u32,
+    rates: &LevelRates,
+    closed: [bool; 6],
+    cells: &[u64],
+    right: &mut [u64],
+    left: &mut [u64],
+)
+    requires cell_list { length cells.now ≡ len layout.now }
+    requires right_list { length right.old ≡ face_count layout.now }
+    requires left_list { length left.old ≡ face_count layout.now }
+    requires proper { AreProper rates.now }
+    requires second { FitOrder order rates.now }
+    requires small { All (λ t. t < 2 ^ 62) cells.now }
+    ensures right { AreFluxesBy order layout.now Below rates.now closed cells.now right.new }
+    ensures left { AreFluxesBy order layout.now Above rates.now closed cells.now left.new }
+    ensures right_small { AreBelow (2 ^ 62) layout.now right.new }
+    ensures left_small { AreBelow (2 ^ 62) layout.now left.new }
+{
+    if order == 2 {
+        slope_fluxes(layout, rates, closed, cells, right, left);
+    } else {
+        fluxes(layout, rates, closed, cells, right, left);
+    }
+}
+
+/// Writes what passes the faces of a leaf by its own cells and ghosts.
+fn leaf_fluxes(
+    problem: &Problem,
+    tree: &Tree,
+    layout: &Layout,
+    field: u32,
+    leaf: u32,
+    cells: &Cells,
+    right: &mut Cells,
+    left: &mut Cells,
+)
+    ghost lists: { List (List (List ℕ)) }
+    requires mesh { IsSoundMesh tree.now layout.now (field_on problem.now lists field) }
+    requires shape { tree.now.shape ≡ problem.now.shape }
+    requires levels { OnLeaves tree.now (λ _ l. l.level < problem.now.levels) }
+    requires field { field < length problem.now.moves }
+    requires leaf { leaf < length (leaves tree.now) }
+    requires cell_list { length cells.now ≡ len layout.now }
+    requires right_list { length right.old ≡ face_count layout.now }
+    requires left_list { length left.old ≡ face_count layout.now }
+    requires small { All (λ t. t < 2 ^ 62) cells.now }
+    requires own { (l : Loc) → slice_get (leaves tree.now) leaf ≡ Some l → HasInterior (block_in tree.now layout.now (field_on problem.now lists field) l) cells.now }
+    requires around { (l : Loc) → slice_get (leaves tree.now) leaf ≡ Some l → SeesAround (block_in tree.now layout.now (field_on problem.now lists field) l) cells.now }
+    ensures own { (l : Loc) → slice_get (leaves tree.now) leaf ≡ Some l → HasOwn (block_in tree.now layout.now (field_on problem.now lists field) l) right.new left.new }
+    ensures right_size { length right.new ≡ length right.old }
+    ensures left_size { length left.new ≡ length left.old }
+{
+    let rates = level_rates(problem, field, tree.leaf_at(leaf).level);
+    let closed = closed_sides(problem, tree, leaf);
+    let order = problem.moves.as_slice()[field as usize].order;
+    block_fluxes(
+        layout,
+        order,
+        &rates,
+        closed,
+        cells.as_slice(),
+        right.as_mut_slice(),
+        left.as_mut_slice(),
+    );
+}
+
+/// Writes what passes the faces of each leaf by its own cells and ghosts.
+pub(crate) fn own_fluxes(
+    problem: &Problem,
+    tree: &Tree,
+    layout: &Layout,
+    field: u32,
+    ghosts: &Vec<Cells>,
+    faces: &mut FaceLists,
+)
+    ghost lists: { List (List (List ℕ)) }
+    requires mesh { IsSoundMesh tree.now layout.now (field_on problem.now lists field) }
+    requires shape { tree.now.shape ≡ problem.now.shape }
+    requires levels { OnLeaves tree.now (λ _ l. l.level < problem.now.levels) }
+    requires field { field < length problem.now.moves }
+    requires seen { SeeMesh (settings_of problem.now) (mesh_in tree.now (field_on problem.now lists field)) layout.now field ghosts.now.items }
+    requires faces { AreFaceLists layout.now (length (leaves tree.now)) faces.old }
+    ensures faces { AreFaceLists layout.now (length (leaves tree.now)) faces.new }
+    ensures own { HaveOwn tree.now layout.now (field_on problem.now lists field) faces.new }
+{
+    for leaf in 0..tree.len() {
+        let at = leaf as usize;
+        leaf_fluxes(
+            problem,
+            tree,
+            layout,
+            field,
+            leaf,
+            &ghosts[at],
+            &mut faces.right[at],
+            &mut faces.left[at],
+        );
+    }
+}
