@@ -12,8 +12,10 @@ use Rattle.block_layout.specs.declared.layout.Layout.{Layout}
 use Rattle.upwind_fluxes.specs.declared.donor.Donor.{Donor}
 use Rattle.upwind_fluxes.specs.Fluxes.{AreFluxes, is_closed_side}
 use Rattle.slope_kernel.specs.Slopes.{AreSlopeFluxes}
-use Rattle.upwind_fluxes.specs.Rates.{along}
+use Rattle.upwind_fluxes.specs.Multipliers.{AreOf}
+use Rattle.upwind_fluxes.specs.Rates.{AreProper, along}
 use Rattle.block_laws.specs.Rates.{reflects}
+use Rattle.dense_stage.specs.declared.rates.LevelPortions.{LevelPortions}
 
 -- a rate of a field is a part of the denominator, and at most two thirds of it by the second order
 pub record IsRateOf (p : Settings) (f rate : ℕ) : Type 0 where
@@ -40,3 +42,10 @@ pub record FitOrder (order : ℕ) (rates : LevelRates) : Type 0 where
 pub record AreFluxesBy (order : ℕ) (l : Layout) (donor : Donor) (rates : LevelRates) (closed : List Bool) (cells list : List ℕ) : Type 0 where
   pub first : order ≡ 1 → AreFluxes l donor rates closed cells list
   pub second : order ≡ 2 → AreSlopeFluxes l donor rates closed cells list
+
+-- rates at a level with their multipliers
+pub record AreLevelPortions (p : Settings) (f : ℕ) (x : LevelPortions) : Type 0 where
+  pub rates : AreRatesAt p f x.level x.rates
+  pub proper : AreProper x.rates
+  pub second : FitOrder (moves_at p f).order x.rates
+  pub multipliers : AreOf x.rates x.multipliers

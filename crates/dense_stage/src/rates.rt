@@ -8,12 +8,12 @@ ghost use Rattle.mesh_rules.specs.Fields.{kind_at, moves_at, rates_at};
 ghost use Rattle.block_tree.specs.Blocks.{leaves};
 ghost use Rattle.upwind_fluxes.specs.Rates.{AreProper};
 ghost use Rattle.block_laws.specs.Rates.{reflects};
-ghost use Rattle.dense_stage.specs.Rates.{AreRatesAt, ClosesAt, FitOrder, IsRateOf};
+ghost use Rattle.dense_stage.specs.Rates.{AreLevelPortions, AreRatesAt, ClosesAt, FitOrder, IsRateOf};
 
 use block_tree::{Behind, Tree};
 use morton_order::Side;
 use problem_set::{FaceKind, Problem, Rates};
-use upwind_fluxes::LevelRates;
+use upwind_fluxes::{LevelRates, Multipliers};
 
 /// The rates of a field along an axis at a level, none along an axis that is not in use.
 fn axis_rates(problem: &Problem, field: u32, axis: u32, level: u32) -> Rates
@@ -33,7 +33,7 @@ fn axis_rates(problem: &Problem, field: u32, axis: u32, level: u32) -> Rates
 }
 
 /// The rates of a field at a level.
-pub(crate) fn level_rates(problem: &Problem, field: u32, level: u32) -> LevelRates
+fn level_rates(problem: &Problem, field: u32, level: u32) -> LevelRates
     requires field { field < length problem.now.moves }
     requires level { level < problem.now.levels }
     ensures rates { AreRatesAt (settings_of problem.now) field level result }
@@ -47,6 +47,49 @@ pub(crate) fn level_rates(problem: &Problem, field: u32, level: u32) -> LevelRat
             axis_rates(problem, field, 1, level),
             axis_rates(problem, field, 2, level),
         ],
+    }
+}
+
+/// The rates of a field at a level, and the multipliers that stand for them.
+#[derive(Clone, Copy)]
+pub(crate) struct LevelPortions {
+    pub(crate) level: u32,
+    pub(crate) rates: LevelRates,
+    pub(crate) multipliers: Multipliers,
+}
+
+/// Those of a level.
+pub(crate) fn level_portions(problem: &Problem, field: u32, level: u32) -> LevelPortions
+    requires field { field < length problem.now.moves }
+    requires level { level < problem.now.levels }
+    ensures portions { AreLevelPortions (settings_of problem.now) field result }
+    ensures level { result.level ≡ level }
+{
+    let rates = level_rates(problem, field, level);
+    LevelPortions {
+        level,
+        rates,
+        multipliers: Multipliers::of(&rates),
+    }
+}
+
+/// Those of a level, made anew only where the ones at hand are those of another level.
+pub(crate) fn portions_at(
+    problem: &Problem,
+    field: u32,
+    level: u32,
+    at_hand: LevelPortions,
+) -> LevelPortions
+    requires field { field < length problem.now.moves }
+    requires level { level < problem.now.levels }
+    requires at_hand { AreLevelPortions (settings_of problem.now) field at_hand }
+    ensures portions { AreLevelPortions (settings_of problem.now) field result }
+    ensures level { result.level ≡ level }
+{
+    if at_hand.level == level {
+        at_hand
+    } else {
+        level_portions(problem, field, level)
     }
 }
 
