@@ -1,0 +1,8 @@
+mod Lists
+mod Bounds
+mod Slots
+mod Added
+mod Reactions
+mod Pushed
+mod StagedLists
+mod Cycles

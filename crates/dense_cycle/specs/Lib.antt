@@ -1,0 +1,5 @@
+pub mod Work
+pub mod Fields
+pub mod Held
+pub mod Flows
+pub mod Sums
