@@ -1,60 +1,129 @@
-ghost use Rattle.std.specs.Prelude.{◌≡◌, ◌+◌, ◌-◌, ◌++◌, ◌<◌, ◌≤◌, ◌↔◌, IfOk, OnOk, OnErr, IsTrue, true, map, length, replicate, All, ℕ, ◌^◌};
-ghost use Rattle.problem_set.specs.SettingsOf.{settings_of};
-ghost use Rattle.dense_model.specs.OfProblem.{is_built};
-ghost use Rattle.dense_model.specs.Rows.{IsReady, row_next, rows_later, row_sum, sum_all};
-ghost use Rattle.dense_model.specs.RowRun.{states_of, opening_rows, empty_states, totals_in};
-ghost use Rattle.dense_model.specs.Flows.{flows_later, no_flow};
-ghost use Rattle.dense_model.specs.RunFiles.{dump_after, dumps_at, dumps_until, flow_after, leaves_after, total_after};
+//! The run of a problem.
 
-use crate::dense_dump;
+ghost use Rattle.std.specs.Prelude.{◌≡◌, ◌+◌, ◌-◌, ◌++◌, ◌<◌, ◌≤◌, ◌^◌, ◌↔◌, IfOk, IfErr, OnOk, OnErr, IsTrue, length, replicate};
+ghost use Rattle.package_fields.specs.Flow.{no_flow};
+ghost use Rattle.problem_set.specs.SettingsOf.{settings_of};
+ghost use Rattle.mesh_rules.specs.Files.{lines_of_cycle};
+ghost use Rattle.mesh_rules.specs.Reaction.{kernel_of};
+ghost use Rattle.dense_model.specs.RunFiles.{CannotGoOn, CannotStart, IsRunning, dump_after, leaves_after, run_of, total_after};
+ghost use Rattle.dense_model.specs.Next.{tree_after};
+
 use crate::fault::DenseFault;
-use crate::field_row::FieldRow;
-use crate::flows::{BoundaryFlow, add_flows, clear_flows};
-use crate::of_problem::moving_at;
+use crate::history::entries_after;
+use crate::next::{Next, next_cycle};
+use crate::opening::open;
+use crate::totals::sum_of_totals;
+use block_layout::Layout;
+use block_tree::Tree;
+use dense_cycle::DenseState;
 use mesh_num::NoMemory;
-use mesh_outside::{Bytes, File, Files, Name};
+use mesh_texts::{dump_text, push_history_lines};
+use package_fields::{Flow, Flows, Items};
 use problem_set::Problem;
 use std::alloc::Global;
 use std::marker::Model;
 
-/// The dense run of a problem, after some of its cycles: every field in every cell of every block.
+/// The dense run of a problem, after some of its cycles: every field in every cell of every leaf, and what is kept of them.
 #[derive(Drop)]
 pub struct DenseRun<'a> {
+    alloc: Global,
     problem: &'a Problem,
     cycle: u32,
-    rows: Vec<FieldRow>,
-    /// What passed the faces of the domain in the last cycle, field by field.
-    flows: Vec<BoundaryFlow>,
+    layout: Layout,
+    tree: Tree,
+    state: DenseState,
+    flows: Flows,
+    drops: Items<u128>,
 }
 
 impl<'a> Model for DenseRun<'a> {
     ghost use Rattle.problem_set.specs.SettingsOf.{settings_of};
     ghost use Rattle.dense_model.specs.RunFiles.{RunAt};
-    ghost use Rattle.dense_model.specs.RowRun.{IsKept};
+    ghost use Rattle.dense_model.specs.Stands.{Stands};
 
     ghost Value = { RunAt };
 
     ghost view = { λ r. record { problem = settings_of r.problem.now; cycle = r.cycle } };
 
-    ghost invariant = { λ r. IsKept (settings_of r.problem.now) r.cycle r.rows.items r.flows.items };
+    ghost invariant = { λ r. Stands (settings_of r.problem.now) r.cycle r.tree r.layout r.state r.flows r.drops };
+}
+
+/// Goes over to the next tree where there is one.
+fn go_over(tree: &mut Tree, next: Option<Tree>)
+    ensures { tree.new ≡ tree_after tree.old next }
+{
+    if let Some(next) = next {
+        *tree = next;
+    }
+}
+
+/// Nothing for each field.
+fn no_flows(alloc: Global, problem: &Problem) -> Result<(Flows, Items<u128>), NoMemory>
+    ensures flows { IfOk result (λ r. r.0 ≡ replicate (length problem.now.moves) no_flow) }
+    ensures drops { IfOk result (λ r. r.1 ≡ replicate (length problem.now.moves) 0) }
+{
+    let none = Flow {
+        inflow: 0,
+        outflow: 0,
+        made: 0,
+        used: 0,
+    };
+    let flows = vec![in alloc; none; problem.moves.len()]?;
+    let drops = vec![in alloc; 0u128; problem.moves.len()]?;
+    Ok((Flows::from_vec(flows), Items::from_vec(drops)))
 }
 
 impl<'a> DenseRun<'a> {
-    ghost use Rattle.dense_model.specs.FileList.{name_and_bytes};
-
-    /// The run before its first cycle: each cell has the amounts of the boxes that hold it.
+    /// The run before its first cycle: on the tree of the static boxes, each cell with its share of the amounts of the boxes
+    /// that hold it. TooManyAtStart comes where that tree has more than 65,536 leaves; TooManyBlocks never comes.
     pub fn start(alloc: Global, problem: &'a Problem) -> Result<DenseRun<'a>, DenseFault>
-        requires { is_built (settings_of problem.now) ≡ true }
-        ensures { IfOk result (λ run. run ≡ record { problem = settings_of problem.now; cycle = 0 }) }
+        ensures started { IfOk result (λ run. run ≡ record { problem = settings_of problem.now; cycle = 0 }) }
+        ensures running { OnOk result (IsRunning (run_of (settings_of problem.now) 0)) }
+        ensures fault { IfErr result (CannotStart (settings_of problem.now)) }
     {
-        let rows = opening_rows(alloc, problem)?;
-        let flows = empty_flows(alloc, problem)?;
+        let opened = open(alloc, problem)?;
+        let (flows, drops) = no_flows(alloc, problem)?;
         Ok(DenseRun {
+            alloc,
             problem,
             cycle: 0,
-            rows,
+            layout: opened.layout,
+            tree: opened.tree,
+            state: opened.state,
             flows,
+            drops,
         })
+    }
+
+    /// Runs one more cycle. TooManyBlocks comes where the next tree has more than 65,536 leaves, with the number of the cycle
+    /// and how many they are; TooManyAtStart never comes. After a fault the run is as before.
+    pub fn cycle(&mut self) -> Result<(), DenseFault>
+        requires { self.old.cycle < self.old.problem.nlim }
+        ensures next { OnOk result (self.new ≡ record self.old { cycle = self.old.cycle + 1 }) }
+        ensures running { OnOk result (IsRunning (run_of self.old.problem (self.old.cycle + 1))) }
+        ensures fault { IfErr result (CannotGoOn self.old) }
+        ensures unchanged { OnErr result (self.new ≡ self.old) }
+    {
+        let next = next_cycle(
+            self.alloc,
+            self.problem,
+            &self.tree,
+            &self.layout,
+            &self.state,
+            self.cycle + 1,
+        )?;
+        let Next {
+            tree,
+            state,
+            flows,
+            drops,
+        } = next;
+        go_over(&mut self.tree, tree);
+        self.state = state;
+        self.flows = flows;
+        self.drops = drops;
+        self.cycle += 1;
+        Ok(())
     }
 
     /// How many cycles were run.
@@ -73,71 +142,11 @@ impl<'a> DenseRun<'a> {
         self.cycle == self.problem.nlim
     }
 
-    /// Runs one more cycle, in place. It never fails while trees do not change.
-    pub fn cycle(&mut self) -> Result<(), DenseFault>
-        requires { self.old.cycle < self.old.problem.nlim }
-        ensures next { self.new ≡ record self.old { cycle = self.old.cycle + 1 } }
-        ensures done { OnErr result ⊥ }
-    {
-        advance(&mut self.rows, &mut self.flows, self.problem.nstages);
-        self.cycle += 1;
-        Ok(())
-    }
-
-    /// What passed the faces of the domain of a field in the last cycle; nothing before the first one.
-    pub fn boundary_flow(&self, field: u32) -> BoundaryFlow
-        requires { field < length self.now.problem.moves }
-        ensures inflow { result.inflow ≡ (flow_after self.now.problem self.now.cycle field).inflow }
-        ensures outflow { result.outflow ≡ (flow_after self.now.problem self.now.cycle field).outflow }
-    {
-        self.flows[field as usize]
-    }
-
-    /// The text of the dump after the cycles that were run.
-    pub fn dump(&self) -> Result<Vec<u8>, NoMemory>
-        ensures { IfOk result (λ text. text.items ≡ dump_after self.now.problem self.now.cycle) }
-    {
-        let alloc = *self.rows.allocator();
-        dense_dump::text(alloc, self.problem, self.rows.as_slice(), self.cycle)
-    }
-
-    /// The files so far, in order: the dumps of the cycles that have one.
-    pub fn files(&self, prefix: &str) -> Result<Files, NoMemory>
-        ensures { IfOk result (λ files. map name_and_bytes files ≡ dumps_until self.now.problem prefix.now self.now.cycle) }
-    {
-        let alloc = *self.rows.allocator();
-        let mut run = restart(alloc, self.problem)?;
-        let mut files = Files::new(alloc);
-        for cycle in 0..self.cycle {
-            run.push_dump(prefix, &mut files)?;
-            let _ = run.cycle();
-        }
-        run.push_dump(prefix, &mut files)?;
-        Ok(files)
-    }
-
-    /// Adds the dump after the cycles that were run, where there is one.
-    fn push_dump(&self, prefix: &str, files: &mut Files) -> Result<(), NoMemory>
-        ensures { OnOk result (map name_and_bytes files.new ≡ map name_and_bytes files.old ++ dumps_at self.now.problem prefix.now self.now.cycle) }
-    {
-        if !dense_dump::is_dumped(self.problem, self.cycle) {
-            return Ok(());
-        }
-        let alloc = *self.rows.allocator();
-        let name = dense_dump::dump_file_name(alloc, prefix, self.cycle)?;
-        let text = self.dump()?;
-        files.push(File {
-            name: Name::of(name),
-            bytes: Bytes::of(text),
-        })?;
-        Ok(())
-    }
-
-    /// How many leaves there are: the root blocks, of which none is refined.
+    /// How many leaves there are.
     pub fn leaves(&self) -> u32
         ensures { result ≡ leaves_after self.now.problem self.now.cycle }
     {
-        self.problem.shape.root[0]
+        self.tree.len()
     }
 
     /// What all totals of all fields add up to.
@@ -145,115 +154,41 @@ impl<'a> DenseRun<'a> {
         ensures value { result ≡ total_after self.now.problem self.now.cycle }
         ensures within { result ≤ 2 ^ 62 - 1 }
     {
-        sum_of_rows(self.rows.as_slice())
+        sum_of_totals(
+            self.problem,
+            &self.tree,
+            &self.layout,
+            self.state.held.lists.as_slice(),
+        )
     }
-}
 
-/// The run before its first cycle.
-fn restart<'a>(alloc: Global, problem: &'a Problem) -> Result<DenseRun<'a>, NoMemory>
-    requires { is_built (settings_of problem.now) ≡ true }
-    ensures { IfOk result (λ run. run ≡ record { problem = settings_of problem.now; cycle = 0 }) }
-{
-    match DenseRun::start(alloc, problem) {
-        Ok(run) => Ok(run),
-        Err(DenseFault::NoMemory) => Err(NoMemory),
+    /// The text of the dump after the cycles that were run.
+    pub fn dump(&self) -> Result<Vec<u8>, NoMemory>
+        ensures { IfOk result (λ text. text.items ≡ dump_after self.now.problem self.now.cycle) }
+    {
+        dump_text(
+            self.alloc,
+            self.problem,
+            &self.tree,
+            &self.layout,
+            self.state.held.lists.as_slice(),
+            self.cycle,
+        )
     }
-}
 
-/// The rows at the start.
-fn opening_rows(alloc: Global, problem: &Problem) -> Result<Vec<FieldRow>, NoMemory>
-    requires { is_built (settings_of problem.now) ≡ true }
-    ensures { IfOk result (λ rows. rows.items ≡ states_of (settings_of problem.now) (opening_rows (settings_of problem.now))) }
-{
-    let mut rows = empty_rows(alloc, problem)?;
-    fill_boxes(&mut rows, problem);
-    Ok(rows)
-}
-
-/// A row for each field, with nothing in its cells.
-fn empty_rows(alloc: Global, problem: &Problem) -> Result<Vec<FieldRow>, NoMemory>
-    ensures { IfOk result (λ rows. rows.items ≡ empty_states (settings_of problem.now)) }
-{
-    let mut rows = Vec::new(alloc);
-    for field in 0..problem.moves.len() {
-        let moving = moving_at(problem, field);
-        let row = FieldRow::zeros(alloc, problem.cells[0] as usize, moving)?;
-        rows.push(row)?;
+    /// Appends the lines of the last cycle in the history, of the opening before the first one.
+    pub fn push_history(&self, into: &mut Vec<u8>) -> Result<(), NoMemory>
+        ensures { OnOk result (into.new.items ≡ into.old.items ++ lines_of_cycle self.now.problem (kernel_of self.now.problem) self.now.cycle) }
+    {
+        let entries = entries_after(
+            self.alloc,
+            self.problem,
+            &self.tree,
+            &self.layout,
+            &self.state,
+            self.flows.as_slice(),
+            self.drops.as_slice(),
+        )?;
+        push_history_lines(self.problem, self.cycle, entries.as_slice(), into)
     }
-    Ok(rows)
-}
-
-/// Nothing for each field.
-fn empty_flows(alloc: Global, problem: &Problem) -> Result<Vec<BoundaryFlow>, NoMemory>
-    ensures { IfOk result (λ flows. flows.items ≡ replicate (length problem.now.moves) no_flow) }
-{
-    let none = BoundaryFlow {
-        inflow: 0,
-        outflow: 0,
-    };
-    Ok(vec![in alloc; none; problem.moves.len()]?)
-}
-
-/// Adds the amounts of the boxes to the cells that they hold.
-fn fill_boxes(rows: &mut Vec<FieldRow>, problem: &Problem)
-    requires built { is_built (settings_of problem.now) ≡ true }
-    requires empty { rows.old.items ≡ empty_states (settings_of problem.now) }
-    ensures { rows.new.items ≡ states_of (settings_of problem.now) (opening_rows (settings_of problem.now)) }
-{
-    for start_box in problem.boxes.as_slice() {
-        let row = &mut rows[start_box.field as usize];
-        row.add(
-            start_box.lo[0] as usize,
-            start_box.hi[0] as usize,
-            start_box.amount,
-        );
-    }
-}
-
-/// That many stages, in place. The flows are those of these stages.
-fn advance(rows: &mut Vec<FieldRow>, flows: &mut Vec<BoundaryFlow>, stages: u32)
-    requires ready { (k : ℕ) → k < stages → All IsReady (rows_later k rows.old.items) }
-    requires as_many { length flows.old.items ≡ length rows.old.items }
-    ensures advanced { rows.new.items ≡ rows_later stages rows.old.items }
-    ensures flowed { flows.new.items ≡ flows_later stages rows.old.items }
-{
-    clear_flows(flows);
-    for stage in 0..stages {
-        add_flows(flows, rows.as_slice());
-        advance_once(rows);
-    }
-}
-
-/// One stage of every row, in place.
-fn advance_once(rows: &mut Vec<FieldRow>)
-    requires { All IsReady rows.old.items }
-    ensures { rows.new.items ≡ map row_next rows.old.items }
-{
-    for row in rows.iter_mut() {
-        row.advance();
-    }
-}
-
-/// What all totals of some rows add up to.
-fn sum_of_rows(rows: &[FieldRow]) -> u64
-    requires { sum_all (totals_in rows.now) < 2 ^ 64 }
-    ensures { result ≡ sum_all (totals_in rows.now) }
-{
-    let mut sum = 0;
-    for row in rows {
-        sum += sum_of_row(row.cells());
-    }
-    sum
-}
-
-/// What the totals of a row add up to.
-fn sum_of_row(cells: &[u64]) -> u64
-    requires { row_sum cells.now < 2 ^ 64 }
-    ensures { result ≡ row_sum cells.now }
-{
-    let mut sum = 0;
-    for total in cells {
-        sum += *total;
-    }
-    sum
 }

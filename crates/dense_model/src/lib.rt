@@ -1,24 +1,17 @@
-//! The dense run: every field on every block, advanced stage by stage, as `mesh_rules` defines it.
+//! The dense run: every field in every cell of every leaf, advanced cycle by cycle.
 //!
-//! - `DenseRun` runs a problem of one block along one axis. It keeps one row of totals a field, and changes it in
-//!   place; its dumps, and what it says of the flow through the faces of the domain, are those of the definitions,
-//!   which speak of faces and looks.
-//! - The functions of `run_laws` carry laws of every such run: they have empty bodies, and their contracts are proved.
+//! A [`DenseRun`] is the run of a problem as the rules have it, on any tree: it opens on the tree of the static boxes, advances
+//! all fields by the kernels of blocks, reckons beside it what is kept on which leaf, and goes over to the next tree where that
+//! is due. Its value is the problem and how many cycles were run; all it tells follows from these.
 #![tactic(auto)]
 
-mod dense_dump;
 mod dense_run;
 mod fault;
-mod field_row;
-mod flows;
-mod of_problem;
-mod row_stage;
-mod run_laws;
+mod history;
+mod kernel;
+mod next;
+mod opening;
+mod totals;
 
-pub use block_layout::Layout;
-pub use dense_dump::{dump_file_name, is_dumped};
 pub use dense_run::DenseRun;
 pub use fault::DenseFault;
-pub use flows::BoundaryFlow;
-pub use of_problem::is_built;
-pub use run_laws::{dumps_of_the_run, totals_change_by_flow, totals_stay_within};
