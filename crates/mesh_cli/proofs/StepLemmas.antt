@@ -1,8 +1,5 @@
 -- How a call ends, step by step.
-use Rattle.std.proofs.Common.{◌≡◌, ◌≢◌, ℕ, ◌≤◌, ◌⊎◌, inl, inr, Bool, true, false, IsTrue, List, Option, Result, Ok, Err, refl, sym, ◌∙◌, ap, subst, arith}
-use Rattle.std.specs.Prelude.{if◌then◌else◌}
-use Rattle.problem_set.specs.Settings.{Settings}
-use Rattle.dense_model.specs.OfProblem.{is_built}
+use Rattle.std.proofs.Common.{◌≡◌, ◌≢◌, ℕ, ◌≤◌, ◌⊎◌, inl, inr, Bool, IsTrue, List, Option, Result, Ok, Err, refl, sym, ◌∙◌, ap, subst, arith}
 use Rattle.mesh_outside.specs.declared.files.File.{File}
 use Rattle.mesh_outside.specs.declared.files.Gained.{Gained}
 use Rattle.mesh_outside.specs.Depot.{DepotSeen, AfterReads, AfterWrites}
@@ -13,42 +10,21 @@ use Rattle.mesh_words.specs.declared.fault.UsageFault.{UsageFault}
 use Rattle.mesh_words.specs.declared.fault.UsageFault.TheVariants as usage_fault
 use Rattle.mesh_input.specs.declared.input.Input.{Input}
 use Rattle.mesh_input.specs.declared.fault.Refusal.{Refusal}
-use Rattle.mesh_input.specs.declared.fault.Refusal.TheVariants.{NotBuilt}
 use Rattle.mesh_input.specs.declared.fault.InputFault.{InputFault}
 use Rattle.mesh_input.specs.declared.fault.InputFault.TheVariants as input_fault
 use Rattle.mesh_outcome.specs.declared.outcome.Outcome.{Outcome}
-use Rattle.mesh_outcome.specs.declared.outcome.Outcome.TheVariants.{Done, Listed, Usage, Refused, ReadFault, WriteFault, NoMemory}
+use Rattle.mesh_outcome.specs.declared.outcome.Outcome.TheVariants.{Usage, ReadFault, WriteFault, NoMemory}
 use Rattle.mesh_input.specs.Input.{Answers, SeenInput, deck_read, input_with, seen_input}
 use Rattle.mesh_input.specs.File.{AnswersFile, Gives}
-use Rattle.mesh_cli.specs.Steps.{AfterCall, AfterInput, AfterSource, AfterTaking, EndsAccepted, EndsBy, EndsWith, RunEnds, outcome_of_fault, outcome_of_usage}
-use Rattle.mesh_cli.specs.Verdicts.{AnswersSource, GivesDeck, GivesInput, Verdict, lists, refused, runs, verdict_on}
-
--- a deck that is listed
-pub listed_ends : (prefix : List ℕ) (listed : Bool) (i : SeenInput) (w : Option (List Gained)) → listed ≡ true → EndsBy prefix (verdict_on listed i) (Listed i.deck) w w
-listed_ends prefix listed i w is =
-    let P : Bool → Type 0 = λ b. EndsBy prefix (verdict_on b i) (Listed i.deck) w w in
-    subst P (sym is) (refl, refl)
-
--- a problem that is not built
-pub not_built_ends : (prefix : List ℕ) (listed : Bool) (i : SeenInput) (w : Option (List Gained)) → listed ≡ false → is_built i.problem ≡ false → EndsBy prefix (verdict_on listed i) (Refused NotBuilt) w w
-not_built_ends prefix listed i w is built =
-    let P : Bool → Type 0 = λ b. EndsBy prefix (verdict_on b i) (Refused NotBuilt) w w in
-    let Q : Bool → Type 0 = λ b. EndsBy prefix (if b then runs i.problem else refused NotBuilt) (Refused NotBuilt) w w in
-    subst P (sym is) (subst Q (sym built) (refl, refl))
-
--- a problem that is run
-pub run_ends : (prefix : List ℕ) (listed : Bool) (i : SeenInput) (outcome : Outcome) (old new : Option (List Gained)) → listed ≡ false → is_built i.problem ≡ true → RunEnds i.problem prefix outcome old new → EndsBy prefix (verdict_on listed i) outcome old new
-run_ends prefix listed i outcome old new is built ends =
-    let P : Bool → Type 0 = λ b. EndsBy prefix (verdict_on b i) outcome old new in
-    let Q : Bool → Type 0 = λ b. EndsBy prefix (if b then runs i.problem else refused NotBuilt) outcome old new in
-    subst P (sym is) (subst Q (sym built) ends)
+use Rattle.mesh_cli.specs.Steps.{AfterCall, AfterInput, AfterSource, AfterTaking, EndsAccepted, EndsBy, EndsWith, outcome_of_fault, outcome_of_usage}
+use Rattle.mesh_cli.specs.Verdicts.{AnswersSource, GivesDeck, GivesInput, refused, verdict_on}
 
 -- an input that was accepted decides how the call ends
-pub input_ends : (arguments : Arguments) (i : SeenInput) (outcome : Outcome) (old mid new : DepotSeen) → GivesInput old.inputs arguments (Ok i) → mid.written ≡ old.written → EndsBy arguments.prefix (verdict_on arguments.prints_deck i) outcome mid.written new.written → EndsAccepted arguments outcome old new
+pub input_ends : (arguments : Arguments) (i : SeenInput) (outcome : Outcome) (old mid new : DepotSeen) → GivesInput old.inputs arguments (Ok i) → mid.written ≡ old.written → EndsBy arguments.prefix (verdict_on arguments i) outcome mid.written new.written → EndsAccepted arguments outcome old new
 input_ends arguments i outcome old mid new gives same ends =
-    let P : Option (List Gained) → Type 0 = λ w. EndsBy arguments.prefix (verdict_on arguments.prints_deck i) outcome w new.written in
+    let P : Option (List Gained) → Type 0 = λ w. EndsBy arguments.prefix (verdict_on arguments i) outcome w new.written in
     inr (record {
-      verdict = verdict_on arguments.prints_deck i;
+      verdict = verdict_on arguments i;
       comes_to = record { given = Ok i; is_given = gives; verdict_is = refl };
       ends = subst P same ends;
     })

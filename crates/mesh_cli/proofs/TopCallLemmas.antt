@@ -1,11 +1,10 @@
 -- What a call promises, from how it ended and what was told of it.
-use Rattle.std.proofs.Common.{◌≡◌, ◌≢◌, IsTrue, Bool, ℕ, ◌⊎◌, inl, inr, List, Option, Some, None, Result, Ok, Err, refl, sym, ◌∙◌, ap, subst}
+use Rattle.std.proofs.Common.{◌≡◌, IsTrue, Bool, ℕ, ◌⊎◌, inl, inr, List, Option, Some, None, Result, Ok, Err, refl, sym, ◌∙◌, ap, subst}
 use Rattle.mesh_outside.specs.declared.files.File.{File}
 use Rattle.mesh_outside.specs.declared.files.Gained.{Gained}
 use Rattle.mesh_outside.specs.Depot.{DepotSeen}
 use Rattle.mesh_outside.specs.Fault.{Counts, Rose}
 use Rattle.mesh_outside.specs.Files.{input_of}
-use Rattle.mesh_outside.specs.Sink.{SinkSeen}
 use Rattle.input_file.specs.Blocks.{Blocks}
 use Rattle.deck_generator.specs.Generated.{generated}
 use Rattle.mesh_input.specs.declared.fault.Refusal.{Refusal as InputRefusal}
@@ -13,14 +12,15 @@ use Rattle.mesh_input.specs.Input.{deck_read}
 use Rattle.mesh_words.specs.Arguments.{Arguments, Source, from_file, from_seed}
 use Rattle.mesh_words.specs.declared.fault.UsageFault.{UsageFault}
 use Rattle.mesh_outcome.specs.declared.outcome.Outcome.{Outcome}
-use Rattle.mesh_outcome.specs.declared.outcome.Outcome.TheVariants.{Done, Listed, Usage, Refused, ReadFault, WriteFault, NoMemory}
+use Rattle.mesh_outcome.specs.declared.outcome.Outcome.TheVariants.{Done, Listed, Usage, Refused, ReadFault, WriteFault, NoMemory, TooManyAtStart, TooManyBlocks}
 use Rattle.mesh_outcome.specs.declared.status.Status.{Status}
 use Rattle.mesh_outcome.specs.declared.status.Status.TheVariants as status
 use Rattle.mesh_outcome.specs.Lines.{IsFixed}
 use Rattle.mesh_outcome.specs.Outcome.{status_of}
 use Rattle.mesh_outcome.specs.Printing.{AfterReport, Tells}
 use Rattle.mesh_cli.specs.Steps.{AfterCall, AfterSource, EndsAccepted, EndsBy, EndsUnread, EndsWith}
-use Rattle.mesh_cli.specs.TopCall.{AreExact, Completes, CompletesSource, CompletesWith, HasCauses, IsOrNoMemory, NamedRose, NoneRose, Outside, SourceRose, TellsCounts, status_for}
+use Rattle.mesh_cli.specs.TopCall.{AreExact, Completes, CompletesSource, CompletesWith, HasCauses, IsOrNoMemory, Outside, SourceRose, TellsCounts, status_for, status_of_run}
+use Rattle.mesh_driver.proofs.Stopped.{ends_at_cycle, ends_at_start}
 use Rattle.mesh_cli.specs.Verdicts.{Verdict, runs, lists, refused, verdict, verdict_by, GivesDeck}
 
 -- a status that was told is the outcome's own, or that of printing, or that of memory
@@ -39,6 +39,8 @@ of_reading (Refused refusal) is = cc
 of_reading ReadFault is = refl
 of_reading WriteFault is = cc
 of_reading NoMemory is = cc
+of_reading TooManyAtStart is = cc
+of_reading (TooManyBlocks cycle leaves) is = cc
 
 of_writing : (o : Outcome) → status_of o ≡ status.WriteFault → o ≡ WriteFault
 of_writing (Done cycles blocks total) is = cc
@@ -48,6 +50,8 @@ of_writing (Refused refusal) is = cc
 of_writing ReadFault is = cc
 of_writing WriteFault is = refl
 of_writing NoMemory is = cc
+of_writing TooManyAtStart is = cc
+of_writing (TooManyBlocks cycle leaves) is = cc
 
 told_reading : (o : Outcome) (s : Status) → (s ≡ status_of o) ⊎ ((s ≡ status.PrintFault) ⊎ (s ≡ status.NoMemory)) → s ≡ status.ReadFault → o ≡ ReadFault
 told_reading o s (inl own) is = of_reading o (sym own ∙ is)
@@ -141,13 +145,15 @@ inputs_stay (Err fault) o old new call = ap (λ (d : DepotSeen). d.inputs) call
 
 -- how a verdict ends a call where no write failed
 verdict_ends : (prefix : List ℕ) (v : Verdict) (o : Outcome) (old new : Option (List Gained)) → EndsBy prefix v o old new → (o ≡ WriteFault → ⊥) → IsOrNoMemory (status_for v) (status_of o)
-verdict_ends prefix (runs p) (Done cycles blocks total) old new ends none = inl refl
+verdict_ends prefix (runs p) (Done cycles blocks total) old new ends none = inl (sym (ap status_of_run ends.2.1))
 verdict_ends prefix (runs p) (Listed deck) old new ends none = absurd ends
 verdict_ends prefix (runs p) (Usage fault) old new ends none = absurd ends
 verdict_ends prefix (runs p) (Refused refusal) old new ends none = absurd ends
 verdict_ends prefix (runs p) ReadFault old new ends none = absurd ends
 verdict_ends prefix (runs p) WriteFault old new ends none = absurd (none refl)
 verdict_ends prefix (runs p) NoMemory old new ends none = inr refl
+verdict_ends prefix (runs p) TooManyAtStart old new ends none = inl (sym (ap status_of_run (ends_at_start p ends.1)))
+verdict_ends prefix (runs p) (TooManyBlocks cycle leaves) old new ends none = inl (sym (ap status_of_run (ends_at_cycle p cycle leaves ends.1 ends.2)))
 verdict_ends prefix (lists deck) o old new ends none = inl (ap status_of ends.0)
 verdict_ends prefix (refused r) o old new ends none = inl (ap status_of ends.0)
 
@@ -163,9 +169,11 @@ deck_ends arguments o old new deck alone (inl unread) no_read no_write = of o un
     of ReadFault h none = absurd (none refl)
     of WriteFault h none = absurd h
     of NoMemory h none = inr refl
+    of TooManyAtStart h none = absurd h
+    of (TooManyBlocks cycle leaves) h none = absurd h
 deck_ends arguments o old new deck alone (inr j) no_read no_write =
     let g = j.comes_to.is_given in
-    let v_is : j.verdict ≡ verdict arguments deck = sym j.comes_to.verdict_is ∙ ap (verdict_by arguments.prints_deck) (sym g.given_is) ∙ ap (verdict arguments) (alone g.deck g.is_deck) in
+    let v_is : j.verdict ≡ verdict arguments deck = sym j.comes_to.verdict_is ∙ ap (verdict_by arguments) (sym g.given_is) ∙ ap (verdict arguments) (alone g.deck g.is_deck) in
     let P : Verdict → Type 0 = λ v. IsOrNoMemory (status_for v) (status_of o) in
     subst P v_is (verdict_ends arguments.prefix j.verdict o old.written new.written j.ends no_write)
 

@@ -1,11 +1,11 @@
 -- How the steps of a call end, and what its depot has gained then.
 use Rattle.std.specs.Prelude.{◌≡◌, ◌≢◌, ℕ, ◌⊎◌, List, Option, Result, Ok, Err, IsTrue}
 use Rattle.problem_set.specs.Settings.{Settings}
-use Rattle.mesh_outside.specs.declared.files.File.{File}
 use Rattle.mesh_outside.specs.declared.files.Gained.{Gained}
 use Rattle.mesh_outside.specs.Depot.{DepotSeen, AfterReads, AfterWrites}
 use Rattle.mesh_outside.specs.Fault.{Counts, Rose}
-use Rattle.mesh_outside.specs.Gained.{Gains, GainsPrefix}
+use Rattle.mesh_outside.specs.Gained.{Gains}
+use Rattle.dense_model.specs.RunFiles.{IsRunning, run_of}
 use Rattle.mesh_words.specs.Arguments.{Arguments, Source, from_file, from_seed}
 use Rattle.mesh_words.specs.declared.fault.UsageFault.{UsageFault}
 use Rattle.mesh_words.specs.declared.fault.UsageFault.TheVariants as usage_fault
@@ -13,8 +13,10 @@ use Rattle.mesh_input.specs.declared.fault.InputFault.{InputFault}
 use Rattle.mesh_input.specs.declared.fault.InputFault.TheVariants as input_fault
 use Rattle.mesh_outcome.specs.declared.outcome.Outcome.{Outcome}
 use Rattle.mesh_outcome.specs.declared.outcome.Outcome.TheVariants.{Done, Listed, Usage, Refused, ReadFault, WriteFault}
-use Rattle.mesh_outcome.specs.declared.outcome.Outcome.TheVariants.{NoMemory}
+use Rattle.mesh_outcome.specs.declared.outcome.Outcome.TheVariants.{NoMemory, TooManyAtStart, TooManyBlocks}
+use Rattle.mesh_driver.specs.declared.fault.DriveFault.TheVariants as stop
 use Rattle.mesh_driver.specs.Files.{end_of, files_of}
+use Rattle.mesh_driver.specs.Stops.{Stops}
 use Rattle.mesh_cli.specs.Verdicts.{Verdict, runs, lists, refused, ComesTo}
 
 -- how a call ends whose words are refused
@@ -28,12 +30,14 @@ outcome_of_fault (input_fault.Refused refusal) = Refused refusal
 outcome_of_fault input_fault.ReadFault = ReadFault
 outcome_of_fault input_fault.NoMemory = NoMemory
 
--- the run of a problem: all its files are gained, or writing stopped among them
+-- the run of a problem: it completed with all its files, or stopped
 abbrev pub RunEnds : Settings → List ℕ → Outcome → Option (List Gained) → Option (List Gained) → Type 0
 RunEnds p prefix (Done cycles blocks total) old new =
-    (record { cycles = cycles; blocks = blocks; total = total } ≡ end_of p) × Gains old new (files_of p prefix)
-RunEnds p prefix WriteFault old new = GainsPrefix old new (files_of p prefix)
-RunEnds p prefix NoMemory old new = GainsPrefix old new (files_of p prefix)
+    (record { cycles = cycles; blocks = blocks; total = total } ≡ end_of p) × Gains old new (files_of p prefix) × IsRunning (run_of p p.nlim)
+RunEnds p prefix WriteFault old new = Stops p prefix old new stop.WriteFault
+RunEnds p prefix NoMemory old new = Stops p prefix old new stop.NoMemory
+RunEnds p prefix TooManyAtStart old new = Stops p prefix old new stop.TooManyAtStart
+RunEnds p prefix (TooManyBlocks cycle leaves) old new = Stops p prefix old new (stop.TooManyBlocks cycle leaves)
 RunEnds p prefix (Listed deck) old new = ⊥
 RunEnds p prefix (Usage fault) old new = ⊥
 RunEnds p prefix (Refused refusal) old new = ⊥
@@ -54,6 +58,8 @@ EndsUnread (Listed deck) old new = ⊥
 EndsUnread (Usage fault) old new = ⊥
 EndsUnread (Refused refusal) old new = ⊥
 EndsUnread WriteFault old new = ⊥
+EndsUnread TooManyAtStart old new = ⊥
+EndsUnread (TooManyBlocks cycle leaves) old new = ⊥
 
 -- the call ended as what its arguments and the file come to says
 pub record EndsJudged (arguments : Arguments) (outcome : Outcome) (old new : DepotSeen) : Type 0 where

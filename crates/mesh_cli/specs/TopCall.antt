@@ -10,6 +10,8 @@ use Rattle.input_file.specs.Blocks.{Blocks}
 use Rattle.deck_generator.specs.Generated.{generated}
 use Rattle.mesh_input.specs.declared.fault.Refusal.{Refusal}
 use Rattle.mesh_input.specs.Input.{deck_read}
+use Rattle.mesh_rules.specs.Run.{Outcome as Run, running, too_many_at, too_many_at_start}
+use Rattle.dense_model.specs.RunFiles.{run_of}
 use Rattle.mesh_words.specs.Arguments.{Arguments, Source, from_file, from_seed, arguments_of}
 use Rattle.mesh_words.specs.declared.fault.UsageFault.{UsageFault}
 use Rattle.mesh_outcome.specs.declared.outcome.Outcome.{Outcome}
@@ -59,9 +61,15 @@ pub record AreExact (before : Outside) : Type 0 where
   pub sink : IsTrue before.sink.is_exact
   pub no_memory : IsTrue before.sink.takes_no_memory
 
+-- the status that a run calls for
+abbrev pub status_of_run : Run → Status
+status_of_run (running reached) = status.Done
+status_of_run too_many_at_start = status.TooManyBlocks
+status_of_run (too_many_at cycle leaves) = status.TooManyBlocks
+
 -- the status that a verdict calls for
 abbrev pub status_for : Verdict → Status
-status_for (runs p) = status.Done
+status_for (runs p) = status_of_run (run_of p p.nlim)
 status_for (lists deck) = status.Done
 status_for (refused refusal) = status.Refused
 

@@ -1,8 +1,7 @@
 -- What accepted words come to, with the file that they name or the deck of their seed.
-use Rattle.std.specs.Prelude.{◌≡◌, ℕ, Bool, List, Option, Result, Ok, Err, if◌then◌else◌}
+use Rattle.std.specs.Prelude.{◌≡◌, ℕ, Bool, false, List, Option, Result, Ok, Err, if◌then◌else◌}
 use Rattle.problem_set.specs.Settings.{Settings}
 use Rattle.input_file.specs.Blocks.{Blocks}
-use Rattle.dense_model.specs.OfProblem.{is_built}
 use Rattle.mesh_outside.specs.declared.files.File.{File}
 use Rattle.input_file.specs.Decks.{and_then}
 use Rattle.deck_generator.specs.Generated.{generated}
@@ -21,16 +20,21 @@ pub data Verdict : Type 0 where
   lists : Blocks → Verdict
   refused : Refusal → Verdict
 
--- what an accepted input comes to: where it is not listed, a problem that is not built is refused
-abbrev pub verdict_on : Bool → SeenInput → Verdict
-verdict_on listed input =
-    if listed then lists input.deck
-    else (if is_built input.problem then runs input.problem else refused NotBuilt)
+-- whether the large deck of a seed is asked for
+abbrev pub is_large : Source → Bool
+is_large (from_file name) = false
+is_large (from_seed seed large) = large
+
+-- what an accepted input comes to: where it is not listed, its problem is run; the large deck of a seed is not run yet
+abbrev pub verdict_on : Arguments → SeenInput → Verdict
+verdict_on arguments input =
+    if arguments.prints_deck then lists input.deck
+    else (if is_large arguments.source then refused NotBuilt else runs input.problem)
 
 -- what the deck, the overrides and the problem come to; their first fault refuses the input
-abbrev pub verdict_by : Bool → Result SeenInput Refusal → Verdict
-verdict_by listed (Ok input) = verdict_on listed input
-verdict_by listed (Err refusal) = refused refusal
+abbrev pub verdict_by : Arguments → Result SeenInput Refusal → Verdict
+verdict_by arguments (Ok input) = verdict_on arguments input
+verdict_by arguments (Err refusal) = refused refusal
 
 -- the deck that a source gives, or the fault of its bytes: of a file those that it has, where the depot tells its inputs
 abbrev pub GivesDeck : Option (List File) → Source → Result Blocks Refusal → Type 0
@@ -49,13 +53,13 @@ pub record GivesInput (inputs : Option (List File)) (arguments : Arguments) (giv
 
 -- what accepted words come to with a deck
 abbrev pub verdict : Arguments → Result Blocks Refusal → Verdict
-verdict arguments deck = verdict_by arguments.prints_deck (input_by arguments deck)
+verdict arguments deck = verdict_by arguments (input_by arguments deck)
 
 -- this is what accepted words come to
 pub record ComesTo (inputs : Option (List File)) (arguments : Arguments) (v : Verdict) : Type 0 where
   pub given : Result SeenInput Refusal
   pub is_given : GivesInput inputs arguments given
-  pub verdict_is : verdict_by arguments.prints_deck given ≡ v
+  pub verdict_is : verdict_by arguments given ≡ v
 
 -- what is answered of accepted words is what their source gives; a fault of reading and want of memory say nothing of it
 abbrev pub AnswersSource : Option (List File) → Arguments → Result Input InputFault → Type 0

@@ -1,16 +1,14 @@
-ghost use Rattle.std.specs.Prelude.{◌≡◌, ◌≢◌, true, Err, map, string_bytes};
+ghost use Rattle.std.specs.Prelude.{◌≡◌, ◌≢◌, Err, map, string_bytes};
 ghost use Rattle.std.specs.Option.{ForSome};
 ghost use Rattle.problem_set.specs.SettingsOf.{settings_of};
-ghost use Rattle.dense_model.specs.OfProblem.{is_built};
 ghost use Rattle.mesh_outside.specs.Depot.{AfterWrites};
 ghost use Rattle.mesh_outside.specs.Gained.{IsClosed};
 ghost use Rattle.mesh_words.specs.Arguments.{arguments_of};
 ghost use Rattle.mesh_words.specs.Seen.{HasSeed, seen_source, seen_arguments};
 ghost use Rattle.mesh_input.specs.Input.{seen_input};
 ghost use Rattle.mesh_cli.specs.Steps.{AfterCall, AfterSource, AfterTaking, EndsAccepted, EndsBy, EndsWith, RunEnds, outcome_of_fault, outcome_of_usage};
-ghost use Rattle.mesh_cli.specs.Verdicts.{AnswersSource, verdict_on};
+ghost use Rattle.mesh_cli.specs.Verdicts.{AnswersSource, is_large, verdict_on};
 
-use dense_model::is_built;
 use mesh_driver::{DriveFault, drive};
 use mesh_input::{Input, InputFault, Refusal, accept_file, accept_seed};
 use mesh_outcome::Outcome;
@@ -53,7 +51,7 @@ fn outcome_of_arguments<'a, D: Depot>(
     ensures after { AfterSource (seen_source arguments.now.source) result (D.seen depot.old) (D.seen depot.new) }
 {
     match accept_source(alloc, arguments, depot) {
-        Ok(input) => outcome_of_input(alloc, input, arguments.prints_deck, arguments.prefix, depot),
+        Ok(input) => outcome_of_input(alloc, arguments, input, depot),
         Err(fault) => outcome_of_fault(fault),
     }
 }
@@ -87,38 +85,46 @@ fn outcome_of_fault(fault: InputFault) -> Outcome
 }
 
 // Lists the deck of an accepted input, or runs its problem.
-fn outcome_of_input<D: Depot>(
+fn outcome_of_input<'a, D: Depot>(
     alloc: Global,
+    arguments: &Arguments<'a>,
     input: Input,
-    listed: bool,
-    prefix: &str,
     depot: &mut D,
 ) -> Outcome
     requires { ForSome (D.seen depot.old).written IsClosed }
-    ensures ends { EndsBy prefix.now (verdict_on listed (seen_input input)) result (D.seen depot.old).written (D.seen depot.new).written }
+    ensures ends { EndsBy (seen_arguments arguments.now).prefix (verdict_on (seen_arguments arguments.now) (seen_input input)) result (D.seen depot.old).written (D.seen depot.new).written }
     ensures read { result ≢ Outcome.ReadFault }
     ensures after { AfterWrites (result ≡ Outcome.WriteFault) (D.seen depot.old) (D.seen depot.new) }
 {
-    if listed {
+    if arguments.prints_deck {
         return Outcome::Listed { deck: input.deck };
     }
-    if !is_built(&input.problem) {
+    if is_large(&arguments.source) {
         return Outcome::Refused {
             refusal: Refusal::NotBuilt,
         };
     }
-    outcome_of_run(alloc, &input.problem, prefix, depot)
+    outcome_of_run(alloc, &input.problem, arguments.prefix, depot)
 }
 
-// Runs a problem that is built.
+// Whether the large deck of a seed is asked for.
+fn is_large<'a>(source: &Source<'a>) -> bool
+    ensures { result ≡ is_large (seen_source source.now) }
+{
+    match source {
+        Source::File(_) => false,
+        Source::Seed { large, .. } => *large,
+    }
+}
+
+// Runs a problem.
 fn outcome_of_run<D: Depot>(
     alloc: Global,
     problem: &Problem,
     prefix: &str,
     depot: &mut D,
 ) -> Outcome
-    requires built { is_built (settings_of problem.now) ≡ true }
-    requires closed { ForSome (D.seen depot.old).written IsClosed }
+    requires { ForSome (D.seen depot.old).written IsClosed }
     ensures ends { RunEnds (settings_of problem.now) prefix.now result (D.seen depot.old).written (D.seen depot.new).written }
     ensures read { result ≢ Outcome.ReadFault }
     ensures after { AfterWrites (result ≡ Outcome.WriteFault) (D.seen depot.old) (D.seen depot.new) }
@@ -131,5 +137,9 @@ fn outcome_of_run<D: Depot>(
         },
         Err(DriveFault::WriteFault) => Outcome::WriteFault,
         Err(DriveFault::NoMemory) => Outcome::NoMemory,
+        Err(DriveFault::TooManyAtStart) => Outcome::TooManyAtStart,
+        Err(DriveFault::TooManyBlocks { cycle, leaves }) => {
+            Outcome::TooManyBlocks { cycle, leaves }
+        }
     }
 }

@@ -1,65 +1,70 @@
 -- The files of a run, one cycle after another.
-use Rattle.std.proofs.Common.{◌≡◌, ℕ, zero, suc, ◌+◌, ◌-◌, ◌≤◌, Bool, true, false, cond, inl, List, [], ◌∷◌, ◌++◌, map, get_or, Option, Some, None, IsTrue, refl, sym, ◌∙◌, ap, subst, arith}
-use Rattle.std.specs.List.{filter, range_with_len}
+use Rattle.std.proofs.Common.{◌≡◌, ℕ, zero, suc, ◌+◌, ◌-◌, ◌<◌, ◌≤◌, Bool, true, false, cond, List, [], ◌∷◌, ◌++◌, length, map, Option, Some, None, IsTrue, codes, refl, sym, ◌∙◌, ap, subst, arith, append_assoc}
+use Rattle.std.specs.List.{flat_map, range_with_len}
 use Rattle.std.specs.Option.{ForSome}
-use Rattle.std.proofs.lemmas.List.{map-append, append-nil}
-use Rattle.std.proofs.lemmas.List.Elements.{filter-append}
+use Rattle.std.proofs.lemmas.List.{map-append, append-nil, get_or-map, length-map}
 use Rattle.problem_set.specs.Settings.{Settings}
-use Rattle.dense_model.specs.RunFiles.{RunAt, dump_after}
-use Rattle.mesh_rules.specs.Files.{dump_file_name, is_dumped}
+use Rattle.mesh_rules.specs.Run.{Outcome, Reached, running}
+use Rattle.mesh_rules.specs.Texts.{dump_text, history_heading, line}
+use Rattle.mesh_rules.specs.Files.{NamedText, dump_file_name, dumps_at, dumps_of_cycle, history_file_name, history_files, is_dumped, lines_of_cycle, lines_until, of_running}
+use Rattle.mesh_rules.specs.Texts.{history_of}
+use Rattle.mesh_rules.specs.Reaction.{kernel_of}
+use Rattle.dense_model.specs.RunFiles.{IsRunning, RunAt, dump_after, of_run, run_of}
 use Rattle.mesh_outside.specs.declared.files.Gained.{Gained}
 use Rattle.mesh_outside.specs.Gained.{IsClosed, Gains, GainsPrefix}
-use Rattle.mesh_driver.specs.Files.{whole_file, dump_of, files_at, files_of}
+use Rattle.mesh_driver.specs.Files.{whole_file, files_at, files_of}
 use Rattle.mesh_driver.proofs.Gaining.{closed_after, gains_more, gains_prefix_more}
 
--- numbers in a row, and those behind them
-range_split : (a n m k b : ℕ) → k ≡ n + m → b ≡ a + n → range_with_len a k ≡ range_with_len a n ++ range_with_len b m
-range_split a zero m k b sum next =
-    let same : k ≡ m = omega arith in
-    let here : a ≡ b = omega arith in
-    ap (λ (v : ℕ). range_with_len a v) same ∙ ap (λ (v : ℕ). range_with_len v m) here
-range_split a (suc n) m k b sum next =
-    let one : k ≡ suc (n + m) = omega arith in
-    let then : b ≡ (a + 1) + n = omega arith in
-    ap (λ (v : ℕ). range_with_len a v) one ∙ ap (λ (t : List ℕ). a ∷ t) (range_split (a + 1) n m (n + m) b refl then)
+-- lists over ranges
+range_parts : {X : Type 0} (f : ℕ → List X) (a n k : ℕ) → flat_map f (range_with_len a (n + k)) ≡ flat_map f (range_with_len a n) ++ flat_map f (range_with_len (a + n) k)
+range_parts f a zero k = let e : 0 + k ≡ k = omega arith in let g : a ≡ a + 0 = omega arith in ap (λ v. flat_map f (range_with_len a v)) e ∙ ap (λ v. flat_map f (range_with_len v k)) g
+range_parts f a (suc n) k =
+    let e : suc n + k ≡ suc (n + k) = omega arith in
+    let g : a + 1 + n ≡ a + suc n = omega arith in
+    ap (λ v. flat_map f (range_with_len a v)) e
+    ∙ ap (λ v. f a ++ v) (range_parts f (a + 1) n k)
+    ∙ sym (append_assoc (f a) (flat_map f (range_with_len (a + 1) n)) (flat_map f (range_with_len (a + 1 + n) k)))
+    ∙ ap (λ v. f a ++ flat_map f (range_with_len (a + 1) n) ++ flat_map f (range_with_len v k)) g
 
--- the files of some cycles
-abbrev pub files_among : Settings → List ℕ → List ℕ → List Gained
-files_among p prefix cycles = map whole_file (map (λ c. (dump_file_name prefix c, dump_after p c)) (filter (is_dumped p) cycles))
+range_next : {X : Type 0} (f : ℕ → List X) (n : ℕ) → flat_map f (range_with_len 0 (n + 1)) ≡ flat_map f (range_with_len 0 n) ++ f n
+range_next f n =
+    let z : 0 + n ≡ n = omega arith in
+    range_parts f 0 n 1 ∙ ap (λ v. flat_map f (range_with_len 0 n) ++ v) (append-nil (f (0 + n)) ∙ ap f z)
 
--- the files before those of a cycle
+-- the dumps of a cycle
+abbrev dumps_in : Settings → List ℕ → ℕ → List NamedText
+dumps_in p prefix n = dumps_of_cycle p (kernel_of p) prefix n
+
+-- the files before those of a cycle, and those from it on
 abbrev pub files_before : Settings → List ℕ → ℕ → List Gained
-files_before p prefix n = files_among p prefix (range_with_len 0 n)
+files_before p prefix n = map whole_file (flat_map (dumps_in p prefix) (range_with_len 0 n))
 
-among_both : (p : Settings) (prefix : List ℕ) (xs ys : List ℕ) → files_among p prefix (xs ++ ys) ≡ files_among p prefix xs ++ files_among p prefix ys
-among_both p prefix xs ys =
-    ap (λ (v : List ℕ). map whole_file (map (λ c. (dump_file_name prefix c, dump_after p c)) v)) (filter-append (is_dumped p) xs ys)
-    ∙ ap (λ (v : List (List ℕ × List ℕ)). map whole_file v) (map-append (λ c. (dump_file_name prefix c, dump_after p c)) (filter (is_dumped p) xs) (filter (is_dumped p) ys))
-    ∙ map-append whole_file (map (λ c. (dump_file_name prefix c, dump_after p c)) (filter (is_dumped p) xs)) (map (λ c. (dump_file_name prefix c, dump_after p c)) (filter (is_dumped p) ys))
-
-among_one : (p : Settings) (prefix : List ℕ) (n : ℕ) → files_among p prefix (n ∷ []) ≡ files_at p prefix n
-among_one p prefix n = by (is_dumped p n)
-  where
-    by : (due : Bool) → map whole_file (map (λ c. (dump_file_name prefix c, dump_after p c)) (cond due (n ∷ []) [])) ≡ cond due (dump_of p prefix n ∷ []) []
-    by true = refl
-    by false = refl
+abbrev pub files_from : Settings → List ℕ → ℕ → List Gained
+files_from p prefix n = map whole_file (flat_map (dumps_in p prefix) (range_with_len n (p.nlim + 1 - n)) ++ history_files p (kernel_of p) prefix)
 
 -- the files of one cycle more
 one_more : (p : Settings) (prefix : List ℕ) (n : ℕ) → files_before p prefix (n + 1) ≡ files_before p prefix n ++ files_at p prefix n
 one_more p prefix n =
-    let here : n ≡ 0 + n = omega arith in
-    ap (files_among p prefix) (range_split 0 n 1 (n + 1) n refl here)
-    ∙ among_both p prefix (range_with_len 0 n) (range_with_len n 1)
-    ∙ ap (λ (v : List Gained). files_before p prefix n ++ v) (among_one p prefix n)
+    ap (map whole_file) (range_next (dumps_in p prefix) n)
+    ∙ map-append whole_file (flat_map (dumps_in p prefix) (range_with_len 0 n)) (dumps_in p prefix n)
 
--- all files are those of some first cycles, and others
-all_split : (p : Settings) (prefix : List ℕ) (n : ℕ) → n ≤ p.nlim → files_of p prefix ≡ (files_before p prefix n ++ files_at p prefix n) ++ files_among p prefix (range_with_len (n + 1) (p.nlim - n))
+-- all files are those before a cycle, and those from it on
+pub all_split : (p : Settings) (prefix : List ℕ) (n : ℕ) → n ≤ p.nlim + 1 → files_of p prefix ≡ files_before p prefix n ++ files_from p prefix n
 all_split p prefix n within =
-    let sum : p.nlim + 1 ≡ (n + 1) + (p.nlim - n) = omega arith in
-    let here : n + 1 ≡ 0 + (n + 1) = omega arith in
-    ap (files_among p prefix) (range_split 0 (n + 1) (p.nlim - n) (p.nlim + 1) (n + 1) sum here)
-    ∙ among_both p prefix (range_with_len 0 (n + 1)) (range_with_len (n + 1) (p.nlim - n))
-    ∙ ap (λ (v : List Gained). v ++ files_among p prefix (range_with_len (n + 1) (p.nlim - n))) (one_more p prefix n)
+    let f : ℕ → List NamedText = dumps_in p prefix in
+    let whole : p.nlim + 1 ≡ n + (p.nlim + 1 - n) = omega (arith, within) in
+    let z : 0 + n ≡ n = omega arith in
+    let history = history_files p (kernel_of p) prefix in
+    let rest = flat_map f (range_with_len n (p.nlim + 1 - n)) in
+    ap (λ (v : ℕ). map whole_file (flat_map f (range_with_len 0 v) ++ history)) whole
+    ∙ ap (λ (v : List NamedText). map whole_file (v ++ history)) (range_parts f 0 n (p.nlim + 1 - n) ∙ ap (λ (v : ℕ). flat_map f (range_with_len 0 n) ++ flat_map f (range_with_len v (p.nlim + 1 - n))) z)
+    ∙ ap (map whole_file) (append_assoc (flat_map f (range_with_len 0 n)) rest history)
+    ∙ map-append whole_file (flat_map f (range_with_len 0 n)) (rest ++ history)
+
+-- those of the cycle stand in between
+all_around : (p : Settings) (prefix : List ℕ) (n : ℕ) → n ≤ p.nlim → files_of p prefix ≡ (files_before p prefix n ++ files_at p prefix n) ++ files_from p prefix (n + 1)
+all_around p prefix n within =
+    all_split p prefix (n + 1) (omega (arith, within)) ∙ ap (λ (v : List Gained). v ++ files_from p prefix (n + 1)) (one_more p prefix n)
 
 -- the files of one cycle more were gained
 pub gains_next : (p : Settings) (prefix : List ℕ) (n m : ℕ) (a b c : Option (List Gained)) → m ≡ n + 1 → Gains a b (files_before p prefix n) → Gains b c (files_at p prefix n) → Gains a c (files_before p prefix m)
@@ -70,93 +75,86 @@ gains_next p prefix n m a b c next first second =
 -- writing stopped among the files of a cycle
 pub stops_at : (p : Settings) (prefix : List ℕ) (n : ℕ) (a b c : Option (List Gained)) → n ≤ p.nlim → Gains a b (files_before p prefix n) → GainsPrefix b c (files_at p prefix n) → GainsPrefix a c (files_of p prefix)
 stops_at p prefix n a b c within first stopped =
-    gains_prefix_more a b c (files_of p prefix) (files_before p prefix n) (files_at p prefix n) (files_among p prefix (range_with_len (n + 1) (p.nlim - n)))
-    (all_split p prefix n within) first stopped
-
--- before the opening nothing is gained
-pub none_gained : (p : Settings) (prefix : List ℕ) (a : Option (List Gained)) → Gains a a (files_before p prefix 0)
-none_gained p prefix None = refl
-none_gained p prefix (Some w) = ap Some (sym (append-nil w))
-
--- the opening's dump is always due
-opening_due : (p : Settings) (prefix : List ℕ) → dump_of p prefix 0 ∷ [] ≡ files_at p prefix 0
-opening_due p prefix = let due : is_dumped p 0 ≡ true = grind arith in rw due refl
-
-pub gains_opening : (p : Settings) (prefix : List ℕ) (a b : Option (List Gained)) → Gains a b (dump_of p prefix 0 ∷ []) → Gains a b (files_before p prefix 1)
-gains_opening p prefix a b gains =
-    let one : 1 ≡ 0 + 1 = omega arith in
-    gains_next p prefix 0 1 a a b one (none_gained p prefix a) (subst (λ (v : List Gained). Gains a b v) (opening_due p prefix) gains)
-
-pub stops_at_opening : (p : Settings) (prefix : List ℕ) (a b : Option (List Gained)) → GainsPrefix a b (dump_of p prefix 0 ∷ []) → GainsPrefix a b (files_of p prefix)
-stops_at_opening p prefix a b stopped =
-    let least : 0 ≤ p.nlim = omega arith in
-    stops_at p prefix 0 a a b least (none_gained p prefix a) (subst (λ (v : List Gained). GainsPrefix a b v) (opening_due p prefix) stopped)
-
--- the files of a cycle are finished
-at_closed : (p : Settings) (prefix : List ℕ) (n : ℕ) → IsClosed (files_at p prefix n)
-at_closed p prefix n = by (is_dumped p n)
-  where
-    by : (due : Bool) → IsClosed (cond due (dump_of p prefix n ∷ []) [])
-    by true = λ k d below.
-        let first : k ≡ 0 = omega arith in
-        subst (λ (j : ℕ). IsTrue (get_or (dump_of p prefix n ∷ []) j d).whole) (sym first) refl
-    by false = λ k d below. absurd (omega arith)
-
-pub closed_behind : (p : Settings) (prefix : List ℕ) (n : ℕ) (a b : Option (List Gained)) → Gains a b (files_at p prefix n) → ForSome a IsClosed → ForSome b IsClosed
-closed_behind p prefix n a b gains closed = closed_after a b (files_at p prefix n) gains closed (at_closed p prefix n)
-
-pub closed_behind_opening : (p : Settings) (prefix : List ℕ) (a b : Option (List Gained)) → Gains a b (dump_of p prefix 0 ∷ []) → ForSome a IsClosed → ForSome b IsClosed
-closed_behind_opening p prefix a b gains closed = closed_behind p prefix 0 a b (subst (λ (v : List Gained). Gains a b v) (opening_due p prefix) gains) closed
+    gains_prefix_more a b c (files_of p prefix) (files_before p prefix n) (files_at p prefix n) (files_from p prefix (n + 1))
+    (all_around p prefix n within) first stopped
 
 -- nothing was gained
-nothing_gained : (a : Option (List Gained)) → Gains a a []
+pub nothing_gained : (a : Option (List Gained)) → Gains a a []
 nothing_gained None = refl
 nothing_gained (Some w) = ap Some (sym (append-nil w))
 
--- writing stopped before the first file
-pub nothing_of_run : (p : Settings) (prefix : List ℕ) (a : Option (List Gained)) → GainsPrefix a a (files_of p prefix)
-nothing_of_run p prefix a =
-    stops_at_opening p prefix a a (record { prefix = []; is_prefix = inl (record { missing = dump_of p prefix 0; others = []; together = refl }); gained = nothing_gained a })
+-- the files of a cycle are finished
+all_whole : (files : List NamedText) → IsClosed (map whole_file files)
+all_whole files = λ k d below.
+    let inside : k < length files = omega (arith, below, length-map files whole_file) in
+    subst (λ (g : Gained). IsTrue g.whole) (sym (get_or-map whole_file files k ([], []) d inside)) refl
 
--- whether a dump is due after one cycle more
-due_next : (p : Settings) (r s : RunAt) (n : ℕ) (b due : Bool) → s ≡ record r { cycle = r.cycle + 1 } → n ≡ s.cycle → b ≡ is_dumped p n → b ≡ due → is_dumped p (r.cycle + 1) ≡ due
-due_next p r s n b due next is told known =
-    let k : s.cycle ≡ r.cycle + 1 = ap (λ (v : RunAt). v.cycle) next in
-    ap (is_dumped p) (sym (is ∙ k)) ∙ sym told ∙ known
+pub closed_behind : (p : Settings) (prefix : List ℕ) (n : ℕ) (a b : Option (List Gained)) → Gains a b (files_at p prefix n) → ForSome a IsClosed → ForSome b IsClosed
+closed_behind p prefix n a b gains closed = closed_after a b (files_at p prefix n) gains closed (all_whole (dumps_in p prefix n))
+
+-- what a run that goes on gives after a cycle
+dumps_are : (p : Settings) (prefix : List ℕ) (n : ℕ) (r : Reached) → run_of p n ≡ running r → files_at p prefix n ≡ map whole_file (dumps_at p prefix n r)
+unfolding run_of
+dumps_are p prefix n r e = ap (λ (o : Outcome). map whole_file (of_running (dumps_at p prefix n) o)) e
 
 -- a dump that is due is the files of its cycle
-pub due_files : (p : Settings) (prefix : List ℕ) (r s : RunAt) (n : ℕ) (b : Bool) → r.problem ≡ p → s ≡ record r { cycle = r.cycle + 1 } → n ≡ s.cycle → b ≡ is_dumped p n → b ≡ true → dump_of s.problem prefix s.cycle ∷ [] ≡ files_at p prefix (r.cycle + 1)
-due_files p prefix r s n b same next is told holds =
-    let a : s.problem ≡ p = ap (λ (v : RunAt). v.problem) next ∙ same in
-    let k : s.cycle ≡ r.cycle + 1 = ap (λ (v : RunAt). v.cycle) next in
-    ap (λ (v : Settings). dump_of v prefix s.cycle ∷ []) a
-    ∙ ap (λ (v : ℕ). dump_of p prefix v ∷ []) k
-    ∙ sym (ap (λ (v : Bool). cond v (dump_of p prefix (r.cycle + 1) ∷ []) []) (due_next p r s n b true next is told holds))
+pub due_files : (p : Settings) (prefix : List ℕ) (r : RunAt) (n : ℕ) (b : Bool) → r.problem ≡ p → IsRunning (run_of p r.cycle) → n ≡ r.cycle → b ≡ is_dumped p n → b ≡ true
+    → whole_file (dump_file_name prefix r.cycle, dump_after r.problem r.cycle) ∷ [] ≡ files_at p prefix r.cycle
+due_files p prefix r n b same runs is told holds =
+    let reached = runs.0 in
+    let due : is_dumped p r.cycle ≡ true = ap (is_dumped p) (sym is) ∙ sym told ∙ holds in
+    ap (λ (q : Settings). whole_file (dump_file_name prefix r.cycle, dump_after q r.cycle) ∷ []) same
+    ∙ ap (λ (o : Outcome). whole_file (dump_file_name prefix r.cycle, of_run (λ s. dump_text p s.state.mesh r.cycle) [] o) ∷ []) runs.1
+    ∙ sym (dumps_are p prefix r.cycle reached runs.1 ∙ ap (λ (v : Bool). map whole_file (cond v ((dump_file_name prefix r.cycle, dump_text p reached.state.mesh r.cycle) ∷ []) [])) due)
 
--- where no dump is due nothing is to be gained
-pub none_due : (p : Settings) (prefix : List ℕ) (r s : RunAt) (n : ℕ) (b : Bool) (a : Option (List Gained)) → s ≡ record r { cycle = r.cycle + 1 } → n ≡ s.cycle → b ≡ is_dumped p n → b ≡ false → Gains a a (files_at p prefix (r.cycle + 1))
-none_due p prefix r s n b a next is told fails =
-    let P : Bool → Type 0 = λ v. Gains a a (cond v (dump_of p prefix (r.cycle + 1) ∷ []) []) in
-    subst P (sym (due_next p r s n b false next is told fails)) (nothing_gained a)
+-- where no dump is due there is none
+pub none_due : (p : Settings) (prefix : List ℕ) (r : RunAt) (n : ℕ) (b : Bool) → IsRunning (run_of p r.cycle) → n ≡ r.cycle → b ≡ is_dumped p n → b ≡ false → [] ≡ files_at p prefix r.cycle
+none_due p prefix r n b runs is told fails =
+    let reached = runs.0 in
+    let none : is_dumped p r.cycle ≡ false = ap (is_dumped p) (sym is) ∙ sym told ∙ fails in
+    sym (dumps_are p prefix r.cycle reached runs.1 ∙ ap (λ (v : Bool). map whole_file (cond v ((dump_file_name prefix r.cycle, dump_text p reached.state.mesh r.cycle) ∷ []) [])) none)
+
+-- the history of a run that completes
+pub history_is : (p : Settings) (prefix : List ℕ) → IsRunning (run_of p p.nlim) → history_files p (kernel_of p) prefix ≡ (history_file_name prefix, history_of p (lines_until p (kernel_of p) p.nlim)) ∷ []
+unfolding run_of
+history_is p prefix runs = ap (of_running (λ (r : Reached). (history_file_name prefix, history_of p (lines_until p (kernel_of p) p.nlim)) ∷ [])) runs.1
+
+-- the lines of the first cycle, and of one cycle more
+pub first_lines : (p : Settings) (history : List ℕ) → history ≡ history_heading p ++ lines_of_cycle p (kernel_of p) 0 → history ≡ history_heading p ++ lines_until p (kernel_of p) 0
+first_lines p history e = e ∙ ap (λ (v : List ℕ). history_heading p ++ v) (sym (append-nil (lines_of_cycle p (kernel_of p) 0)))
+
+pub lines_more : (p : Settings) (n m : ℕ) (before after : List ℕ) → m ≡ n + 1 → before ≡ history_heading p ++ lines_until p (kernel_of p) n → after ≡ before ++ lines_of_cycle p (kernel_of p) (n + 1) → after ≡ history_heading p ++ lines_until p (kernel_of p) m
+lines_more p n m before after next e1 e2 =
+    let heading = history_heading p in
+    let lines = lines_until p (kernel_of p) n in
+    let more = lines_of_cycle p (kernel_of p) (n + 1) in
+    e2 ∙ ap (λ (v : List ℕ). v ++ more) e1 ∙ append_assoc heading lines more
+    ∙ ap (λ (v : List ℕ). heading ++ v) (sym (range_next (lines_of_cycle p (kernel_of p)) (n + 1)))
+    ∙ ap (λ (v : ℕ). heading ++ lines_until p (kernel_of p) v) (sym next)
+
+-- the file of the history
+abbrev pub history_file : List ℕ → List ℕ → Gained
+history_file prefix history = whole_file (history_file_name prefix, history ++ line (codes "end"))
+
+-- all files are those of all cycles, and the history
+pub all_with_history : (p : Settings) (prefix : List ℕ) (n : ℕ) (history : List ℕ) → n ≡ p.nlim → IsRunning (run_of p n) → history ≡ history_heading p ++ lines_until p (kernel_of p) n
+    → files_of p prefix ≡ files_before p prefix (n + 1) ++ history_file prefix history ∷ []
+all_with_history p prefix n history last runs lines =
+    let runs_last : IsRunning (run_of p p.nlim) = subst (λ (v : ℕ). IsRunning (run_of p v)) last runs in
+    let f : ℕ → List NamedText = dumps_in p prefix in
+    let whole : history ≡ history_heading p ++ lines_until p (kernel_of p) p.nlim = lines ∙ ap (λ (v : ℕ). history_heading p ++ lines_until p (kernel_of p) v) last in
+    map-append whole_file (flat_map f (range_with_len 0 (p.nlim + 1))) (history_files p (kernel_of p) prefix)
+    ∙ ap (λ (v : List NamedText). files_before p prefix (p.nlim + 1) ++ map whole_file v) (history_is p prefix runs_last)
+    ∙ ap (λ (v : List ℕ). files_before p prefix (p.nlim + 1) ++ history_file prefix v ∷ []) (sym whole)
+    ∙ ap (λ (v : ℕ). files_before p prefix (v + 1) ++ history_file prefix history ∷ []) (sym last)
 
 -- the same of a run that was just started
-pub started_gains : (p : Settings) (prefix : List ℕ) (r : RunAt) (a c : Option (List Gained)) → r ≡ record { problem = p; cycle = 0 } → Gains a c (dump_of r.problem prefix r.cycle ∷ []) → Gains a c (files_before p prefix (r.cycle + 1))
-started_gains p prefix r a c is =
-    let P : RunAt → Type 0 = λ v. Gains a c (dump_of v.problem prefix v.cycle ∷ []) → Gains a c (files_before p prefix (v.cycle + 1)) in
-    subst P (sym is) (gains_opening p prefix a c)
+pub started_gains : (p : Settings) (prefix : List ℕ) (n : ℕ) (a c : Option (List Gained)) → n ≡ 0 → Gains a c (files_at p prefix 0) → Gains a c (files_before p prefix (n + 1))
+started_gains p prefix n a c none gains =
+    let next : n + 1 ≡ 0 + 1 = omega (arith, none) in
+    gains_next p prefix 0 (n + 1) a a c next (nothing_gained a) gains
 
-pub started_stops : (p : Settings) (prefix : List ℕ) (r : RunAt) (a c : Option (List Gained)) → r ≡ record { problem = p; cycle = 0 } → GainsPrefix a c (dump_of r.problem prefix r.cycle ∷ []) → GainsPrefix a c (files_of p prefix)
-started_stops p prefix r a c is =
-    let P : RunAt → Type 0 = λ v. GainsPrefix a c (dump_of v.problem prefix v.cycle ∷ []) → GainsPrefix a c (files_of p prefix) in
-    subst P (sym is) (stops_at_opening p prefix a c)
-
-pub started_closed : (p : Settings) (prefix : List ℕ) (r : RunAt) (a c : Option (List Gained)) → r ≡ record { problem = p; cycle = 0 } → Gains a c (dump_of r.problem prefix r.cycle ∷ []) → ForSome a IsClosed → ForSome c IsClosed
-started_closed p prefix r a c is =
-    let P : RunAt → Type 0 = λ v. Gains a c (dump_of v.problem prefix v.cycle ∷ []) → ForSome a IsClosed → ForSome c IsClosed in
-    subst P (sym is) (closed_behind_opening p prefix a c)
-
--- all files were gained once the last cycle's were
-pub all_gained : (p q : Settings) (prefix : List ℕ) (n : ℕ) (a c : Option (List Gained)) → q ≡ p → n ≡ q.nlim → Gains a c (files_before p prefix (n + 1)) → Gains a c (files_of p prefix)
-all_gained p q prefix n a c same last gains =
-    let at : n ≡ p.nlim = last ∙ ap (λ (v : Settings). v.nlim) same in
-    subst (λ (v : ℕ). Gains a c (files_before p prefix (v + 1))) at gains
+pub started_lines : (p : Settings) (n : ℕ) (before after : List ℕ) → n ≡ 0 → before ≡ [] → after ≡ before ++ (history_heading p ++ lines_of_cycle p (kernel_of p) 0) → after ≡ history_heading p ++ lines_until p (kernel_of p) n
+started_lines p n before after none empty e =
+    first_lines p after (e ∙ ap (λ (v : List ℕ). v ++ (history_heading p ++ lines_of_cycle p (kernel_of p) 0)) empty)
+    ∙ ap (λ (v : ℕ). history_heading p ++ lines_until p (kernel_of p) v) (sym none)

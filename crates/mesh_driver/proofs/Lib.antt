@@ -1,3 +1,5 @@
 pub mod Cycles
 pub mod Faults
 pub mod Gaining
+pub mod Stopped
+pub mod Stopping

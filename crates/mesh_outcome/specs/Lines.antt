@@ -15,6 +15,10 @@ abbrev pub done_words : ℕ → ℕ → ℕ → List ℕ
 done_words cycles blocks total = codes "done cycles=" ++ (decimal cycles ++ (codes " blocks=" ++ (decimal blocks ++
     (codes " total=" ++ decimal total))))
 
+-- how the run stopped at a cycle
+abbrev pub too_many_words : ℕ → ℕ → List ℕ
+too_many_words cycle leaves = codes "too many blocks at cycle " ++ (decimal cycle ++ (codes ": " ++ decimal leaves))
+
 -- all that is printed: one line, or the deck
 abbrev pub text_of : Outcome → List ℕ
 text_of (outcome.Done cycles blocks total) = line (done_words cycles blocks total)
@@ -24,6 +28,8 @@ text_of (outcome.Refused r) = line (codes "refused: " ++ refusal_words r)
 text_of outcome.ReadFault = line (codes "read fault")
 text_of outcome.WriteFault = line (codes "write fault")
 text_of outcome.NoMemory = line (codes "no memory")
+text_of outcome.TooManyAtStart = line (codes "too many blocks at start")
+text_of (outcome.TooManyBlocks cycle leaves) = line (too_many_words cycle leaves)
 
 -- the line of an outcome has no number and no name in it
 abbrev pub IsFixed : Outcome → Type 0
@@ -34,3 +40,5 @@ IsFixed (outcome.Refused r) = ⊥
 IsFixed outcome.ReadFault = Unit {0}
 IsFixed outcome.WriteFault = Unit {0}
 IsFixed outcome.NoMemory = Unit {0}
+IsFixed outcome.TooManyAtStart = Unit {0}
+IsFixed (outcome.TooManyBlocks cycle leaves) = ⊥

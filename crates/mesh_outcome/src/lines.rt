@@ -1,5 +1,5 @@
 ghost use Rattle.std.specs.Prelude.{◌≡◌, ◌++◌, Ok, codes, IfOk, IsOk, string_bytes};
-ghost use Rattle.mesh_outcome.specs.Lines.{IsFixed, done_words, line, text_of};
+ghost use Rattle.mesh_outcome.specs.Lines.{IsFixed, done_words, line, text_of, too_many_words};
 ghost use Rattle.mesh_outcome.specs.RefusalWords.{refusal_words};
 ghost use Rattle.mesh_outcome.specs.Text.{bytes_of};
 
@@ -30,6 +30,8 @@ pub fn text_of(alloc: Global, outcome: &Outcome) -> Result<Text, NoMemory>
         Outcome::ReadFault => fixed("read fault\n"),
         Outcome::WriteFault => fixed("write fault\n"),
         Outcome::NoMemory => fixed("no memory\n"),
+        Outcome::TooManyAtStart => fixed("too many blocks at start\n"),
+        Outcome::TooManyBlocks { cycle, leaves } => too_many_line(alloc, *cycle, *leaves),
     }
 }
 
@@ -43,6 +45,13 @@ fn done_line(alloc: Global, cycles: u32, blocks: u32, total: u64) -> Result<Text
     ensures { IfOk result (λ text. bytes_of text ≡ line (done_words cycles blocks total)) }
 {
     let words = format!(in alloc; "done cycles={cycles} blocks={blocks} total={total}")?;
+    line_of(words)
+}
+
+fn too_many_line(alloc: Global, cycle: u32, leaves: u64) -> Result<Text, NoMemory>
+    ensures { IfOk result (λ text. bytes_of text ≡ line (too_many_words cycle leaves)) }
+{
+    let words = format!(in alloc; "too many blocks at cycle {cycle}: {leaves}")?;
     line_of(words)
 }
 

@@ -33,6 +33,13 @@ pub enum Outcome {
     WriteFault,
     /// No memory was left.
     NoMemory,
+    /// The opening tree would have more than 65,536 leaves.
+    TooManyAtStart,
+    /// The next tree would have more than 65,536 leaves: after which cycle, and how many it would have.
+    TooManyBlocks {
+        cycle: u32,
+        leaves: u64,
+    },
 }
 
 impl Outcome {
@@ -47,6 +54,7 @@ impl Outcome {
             Outcome::ReadFault => Status::ReadFault,
             Outcome::WriteFault => Status::WriteFault,
             Outcome::NoMemory => Status::NoMemory,
+            Outcome::TooManyAtStart | Outcome::TooManyBlocks { .. } => Status::TooManyBlocks,
         }
     }
 }

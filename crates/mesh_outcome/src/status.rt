@@ -16,6 +16,8 @@ pub enum Status {
     WriteFault,
     /// No memory was left.
     NoMemory,
+    /// A tree would have too many leaves: the opening one, or one at a cycle.
+    TooManyBlocks,
     /// What was to be printed could not be.
     PrintFault,
 }
@@ -32,6 +34,7 @@ impl Status {
             Status::ReadFault => 3,
             Status::WriteFault => 4,
             Status::NoMemory => 5,
+            Status::TooManyBlocks => 6,
             Status::PrintFault => 7,
         }
     }

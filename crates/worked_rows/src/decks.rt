@@ -84,6 +84,205 @@ hi2 = 47
 amount = 50
 ";
 
+/// A coarse block with 5 in its last cell, and two finer blocks on its right.
+pub const GRADED_ROW: &str = "<parthenon/mesh>
+nx1 = 8
+refinement = static
+numlevel = 2
+ix1_bc = reflecting
+ox1_bc = reflecting
+<parthenon/meshblock>
+nx1 = 4
+<parthenon/time>
+nlim = 1
+<whole>
+denominator = 5
+<field/a>
+flags = Cell,Independent,FillGhost,WithFluxes,Sparse
+ids = 0
+v1 = 1
+<static/s>
+level = 1
+lo1 = 4
+hi1 = 7
+<box/0>
+field = a_0
+lo1 = 3
+hi1 = 3
+amount = 5
+";
+
+/// The same of a field that is stored everywhere.
+pub const STORED_GRADED_ROW: &str = "<parthenon/mesh>
+nx1 = 8
+refinement = static
+numlevel = 2
+ix1_bc = reflecting
+ox1_bc = reflecting
+<parthenon/meshblock>
+nx1 = 4
+<parthenon/time>
+nlim = 1
+<whole>
+denominator = 5
+<field/a>
+v1 = 1
+<static/s>
+level = 1
+lo1 = 4
+hi1 = 7
+<box/0>
+field = a
+lo1 = 3
+hi1 = 3
+amount = 5
+";
+
+/// Two blocks, with 1 in the last cell of the left one, which never moves.
+pub const TWO_BLOCKS: &str = "<parthenon/mesh>
+nx1 = 8
+ix1_bc = reflecting
+ox1_bc = reflecting
+<parthenon/meshblock>
+nx1 = 4
+<parthenon/time>
+nlim = 10
+<whole>
+denominator = 4
+<field/a>
+flags = Cell,Independent,FillGhost,WithFluxes,Sparse
+ids = 0
+v1 = 1
+<box/0>
+field = a_0
+lo1 = 3
+hi1 = 3
+amount = 1
+";
+
+/// A reaction that takes a tenth of one field to another.
+pub const REACTION: &str = "<parthenon/mesh>
+nx1 = 4
+<parthenon/time>
+nlim = 1
+<field/a>
+flags = Cell,Independent,Sparse
+ids = 0
+<field/b>
+flags = Cell,Independent,Sparse
+ids = 0
+<box/0>
+field = a_0
+lo1 = 0
+hi1 = 0
+amount = 9
+<reaction/r>
+from = a_0
+to = b_0
+num = 1
+den = 10
+";
+
+/// As many leaves as a tree may have, of which one is to be refined at the first cycle.
+pub const FULL_TREE: &str = "<parthenon/mesh>
+nx1 = 256
+nx2 = 256
+refinement = adaptive
+numlevel = 4
+<parthenon/meshblock>
+nx1 = 4
+nx2 = 4
+<parthenon/time>
+nlim = 1
+<field/a>
+flags = Cell,Independent,FillGhost,WithFluxes,Sparse
+ids = 0
+<static/s>
+level = 2
+<box/0>
+field = a_0
+lo1 = 0
+hi1 = 0
+lo2 = 0
+hi2 = 0
+amount = 16
+<criterion/c>
+field = a_0
+method = peak
+refine_tol = 0
+derefine_tol = 0
+";
+
+/// A corner cell of 6 with finer blocks on its right and above.
+pub const GRADED_SQUARE: &str = "<parthenon/mesh>
+nx1 = 8
+nx2 = 8
+refinement = static
+numlevel = 2
+ix1_bc = reflecting
+ox1_bc = reflecting
+ix2_bc = reflecting
+ox2_bc = reflecting
+<parthenon/meshblock>
+nx1 = 4
+nx2 = 4
+<parthenon/time>
+nlim = 1
+<whole>
+denominator = 4
+<field/a>
+flags = Cell,Independent,FillGhost,WithFluxes,Sparse
+ids = 0
+v1 = 1
+v2 = 1
+<static/e>
+level = 1
+lo1 = 4
+<static/n>
+level = 1
+hi1 = 3
+lo2 = 4
+<box/0>
+field = a_0
+lo1 = 3
+hi1 = 3
+lo2 = 3
+hi2 = 3
+amount = 6
+";
+
+/// One block that is refined at the first cycle for the 10 in its first cell.
+pub const ADAPTIVE_ROW: &str = "<parthenon/mesh>
+nx1 = 4
+refinement = adaptive
+numlevel = 2
+ix1_bc = reflecting
+ox1_bc = reflecting
+<parthenon/time>
+nlim = 6
+<field/a>
+flags = Cell,Independent,FillGhost,WithFluxes,Sparse
+ids = 0
+<box/0>
+field = a_0
+lo1 = 0
+hi1 = 0
+amount = 10
+<criterion/c>
+field = a_0
+method = peak
+refine_tol = 9
+derefine_tol = 5
+";
+
+/// The history of the deck of one block.
+pub const ONE_BLOCK_HISTORY: &str = "parthenon-whole history 1
+cycle 0 field a total 8 in 0 out 0 made 0 used 0 blocks 1
+cycle 1 field a total 8 in 0 out 0 made 0 used 0 blocks 1
+cycle 2 field a total 8 in 0 out 0 made 0 used 0 blocks 1
+end
+";
+
 /// The dump of a cycle of one field in four cells: this row, or none where all are zero.
 pub fn dump(alloc: Global, cycle: u32, row: &str) -> Result<String, AllocError> {
     let mut text = String::from_str(alloc, "parthenon-whole dump 1\n")?;

@@ -1,8 +1,8 @@
 use crate::calls::{call, call_failing, failing};
-use crate::decks::{ONE_BLOCK, dump};
+use crate::decks::{ONE_BLOCK, ONE_BLOCK_HISTORY, dump};
 use mesh_cli::Status;
 use mesh_outside::{Fail, Fails, Written};
-use std::alloc::Global;
+use std::alloc::{AllocError, Global};
 use std::process::Abort;
 use std::test::Fail as TestFail;
 
@@ -18,9 +18,9 @@ fn an_absent_file_is_a_read_fault(rt: HostRuntime) -> Result<(), TestFail> {
     Ok(())
 }
 
-/// A call that fails, the status with its line, and what is there then: how many whole dumps, and how
+/// A call that fails, the status with its line, and what is there then: how many whole files, and how
 /// many bytes of the next one, where it was begun.
-const FAULTS: [(Fail, Status, &str, usize, Option<usize>); 12] = [
+const FAULTS: [(Fail, Status, &str, usize, Option<usize>); 15] = [
     (Fail::Read(1), Status::ReadFault, "read fault\n", 0, None),
     (Fail::Read(2), Status::ReadFault, "read fault\n", 0, None),
     (Fail::Begin(1), Status::WriteFault, "write fault\n", 0, None),
@@ -68,11 +68,26 @@ const FAULTS: [(Fail, Status, &str, usize, Option<usize>); 12] = [
         2,
         Some(133),
     ),
+    (Fail::Begin(4), Status::WriteFault, "write fault\n", 3, None),
     (
-        Fail::Begin(4),
+        Fail::AppendOf(4),
+        Status::WriteFault,
+        "write fault\n",
+        3,
+        Some(102),
+    ),
+    (
+        Fail::Finish(4),
+        Status::WriteFault,
+        "write fault\n",
+        3,
+        Some(204),
+    ),
+    (
+        Fail::Read(3),
         Status::Done,
         "done cycles=2 blocks=1 total=8\n",
-        3,
+        4,
         None,
     ),
 ];
@@ -102,18 +117,26 @@ fn check_left(
         None => whole,
     };
     assert_eq!(rt; written.len(), count);
-    for (cycle, row) in ROWS.iter().enumerate().take(count) {
-        let file = written.get(cycle).ok_or("a file is missing")?;
-        let text = dump(alloc, cycle as u32, *row)?;
+    for at in 0..count {
+        let file = written.get(at).ok_or("a file is missing")?;
+        let text = text_of(alloc, at)?;
         let length = match part {
-            Some(length) if cycle >= whole => length,
+            Some(length) if at >= whole => length,
             _ => text.len(),
         };
-        assert_eq!(rt; file.whole, cycle < whole);
+        assert_eq!(rt; file.whole, at < whole);
         assert!(rt; text.as_bytes().starts_with(file.bytes.as_bytes()));
         assert_eq!(rt; file.bytes.as_bytes().len(), length);
     }
     Ok(())
+}
+
+// The text of a file of the run: a dump, or the history.
+fn text_of(alloc: Global, at: usize) -> Result<String, AllocError> {
+    match ROWS.get(at) {
+        Some(row) => dump(alloc, at.min(2) as u32, *row),
+        None => String::from_str(alloc, ONE_BLOCK_HISTORY),
+    }
 }
 
 // The first print fails: all files are there.
@@ -131,8 +154,8 @@ fn a_failing_print_leaves_all_files(rt: HostRuntime) -> Result<(), TestFail> {
     assert_eq!(rt; called.status.code(), 7);
     assert_eq!(rt; called.out.printed().len(), 0);
     let written = called.depot.written();
-    assert_eq!(rt; written.len(), 3);
-    for at in 0..3 {
+    assert_eq!(rt; written.len(), 4);
+    for at in 0..4 {
         let file = written.get(at).ok_or("a file is missing")?;
         assert!(rt; file.whole);
     }

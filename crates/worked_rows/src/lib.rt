@@ -6,8 +6,6 @@ mod calls;
 #[cfg(test)]
 mod decks;
 #[cfg(test)]
-mod dense_files;
-#[cfg(test)]
 mod faults;
 #[cfg(test)]
 mod lines;
@@ -18,6 +16,16 @@ mod outside;
 #[cfg(test)]
 mod pieces;
 #[cfg(test)]
+mod pool_rows;
+#[cfg(test)]
+mod rows;
+#[cfg(test)]
+mod rule_rows;
+#[cfg(test)]
 mod runs;
+#[cfg(test)]
+mod stops;
+#[cfg(test)]
+mod tree_rows;
 #[cfg(test)]
 mod words;

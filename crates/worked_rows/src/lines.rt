@@ -1,12 +1,12 @@
 use crate::calls::{call, words_with};
-use crate::decks::{ONE_BLOCK, TWO_DYES, many_static_boxes};
+use crate::decks::{ONE_BLOCK, many_static_boxes};
 use mesh_cli::Status;
 use std::alloc::Global;
 use std::process::Abort;
 use std::test::Fail as TestFail;
 
 /// Overrides of the deck of one block, and the lines that refuse it.
-const REFUSED: [(&[&str], &str); 18] = [
+const REFUSED: [(&[&str], &str); 17] = [
     (
         &["parthenon/mesh/nx1=99999999999999999999"],
         "refused: value parthenon/mesh nx1\n",
@@ -70,14 +70,13 @@ const REFUSED: [(&[&str], &str); 18] = [
     (&["box/1/field=a"], "refused: missing box/1 amount\n"),
     (&["whole/nstages=1", "b=5"], "refused: override 2\n"),
     (&["--", "-n"], "refused: override 1\n"),
-    (&["parthenon/mesh/nx2=4"], "refused: not built\n"),
     (
-        &["parthenon/mesh/nx1=8", "parthenon/meshblock/nx1=4"],
-        "refused: not built\n",
+        &["parthenon/mesh/nx3=4"],
+        "refused: limit parthenon/mesh nx3 = 4\n",
     ),
     (
-        &["parthenon/mesh/refinement=static"],
-        "refused: not built\n",
+        &["field/a/order=2", "field/a/v1=3"],
+        "refused: rates a sum 3\n",
     ),
 ];
 
@@ -111,7 +110,7 @@ fn refused_files_have_their_lines(rt: HostRuntime) -> Result<(), TestFail> {
     let boxes = many_static_boxes(alloc, 257)?;
     let headers = vec![in alloc; b'<'; 1_048_576]?;
     let blanks = vec![in alloc; b' '; 1_048_577]?;
-    let rows: [(&[u8], &str); 8] = [
+    let rows: [(&[u8], &str); 7] = [
         (b"", "refused: missing parthenon/mesh nx1\n"),
         (b"nx1 = 4\n<a>\n", "refused: line 1 no block\n"),
         (b"<a>\n<a", "refused: line 2 syntax\n"),
@@ -119,7 +118,6 @@ fn refused_files_have_their_lines(rt: HostRuntime) -> Result<(), TestFail> {
         (headers.as_slice(), "refused: line 1 syntax\n"),
         (blanks.as_slice(), "refused: too long\n"),
         (boxes.as_bytes(), "refused: limit static count = 257\n"),
-        (TWO_DYES.as_bytes(), "refused: not built\n"),
     ];
     for (deck, line) in rows {
         let called = call(alloc, &["-i", "deck", "no/word=1"], deck)?;

@@ -27,7 +27,7 @@ fn the_deck_is_listed_with_its_overrides(rt: HostRuntime) -> Result<(), TestFail
     Ok(())
 }
 
-// A deck is listed also where its problem is not built, and not where it is refused.
+// A deck is listed where its problem is accepted, and not where it is refused.
 #[test]
 fn what_is_accepted_is_listed(rt: HostRuntime) -> Result<(), TestFail> {
     let alloc = rt.alloc();
@@ -68,15 +68,15 @@ fn the_deck_of_a_seed_is_listed(rt: HostRuntime) -> Result<(), TestFail> {
     Ok(())
 }
 
-// The decks of some seeds, small and large, are accepted; they are not run yet.
+// The large decks of some seeds are accepted; they are not run yet.
 #[test]
-fn decks_of_seeds_are_accepted(rt: HostRuntime) -> Result<(), TestFail> {
+fn large_decks_of_seeds_are_accepted(rt: HostRuntime) -> Result<(), TestFail> {
     let alloc = rt.alloc();
     for seed in ["0", "1", "7", "1103515245", "2147483647"] {
-        let small = call(alloc, &["-g", seed], b"<")?;
-        assert_eq!(rt; small.out.printed(), b"refused: not built\n".as_slice());
         let large = call(alloc, &["-l", "-g", seed], b"<")?;
+        assert_eq!(rt; large.status, Status::Refused);
         assert_eq!(rt; large.out.printed(), b"refused: not built\n".as_slice());
+        assert_eq!(rt; large.depot.written().len(), 0);
     }
     Ok(())
 }

@@ -1,5 +1,5 @@
 use crate::calls::{call, check_file, input, words, words_with};
-use crate::decks::{ONE_BLOCK, dump, many_fields, many_fields_dump};
+use crate::decks::{ONE_BLOCK, ONE_BLOCK_HISTORY, dump, many_fields, many_fields_dump};
 use mesh_cli::{Status, mesh_plain};
 use mesh_outside::{MemSink, SureDepot, Written};
 use std::alloc::Global;
@@ -106,7 +106,7 @@ fn check_run(
     let called = call(alloc, words.as_slice(), ONE_BLOCK.as_bytes())?;
     assert_eq!(rt; called.status, Status::Done);
     assert_eq!(rt; called.out.printed(), line.as_bytes());
-    assert_eq!(rt; called.depot.written().len(), dumps.len());
+    assert_eq!(rt; called.depot.written().len(), dumps.len() + 1);
     check_dumps(rt, alloc, called.depot.written(), dumps)
 }
 
@@ -124,6 +124,20 @@ fn check_dumps(
     Ok(())
 }
 
+// The history is the last file.
+#[test]
+fn a_run_writes_its_history_last(rt: HostRuntime) -> Result<(), TestFail> {
+    let called = call(rt.alloc(), &["-i", "deck"], ONE_BLOCK.as_bytes())?;
+    assert_eq!(rt; called.status, Status::Done);
+    check_file(
+        &rt,
+        called.depot.written(),
+        3,
+        "mesh.hist",
+        ONE_BLOCK_HISTORY,
+    )
+}
+
 #[test]
 fn each_field_of_a_deck_is_in_its_dumps(rt: HostRuntime) -> Result<(), TestFail> {
     let alloc = rt.alloc();
@@ -134,7 +148,7 @@ fn each_field_of_a_deck_is_in_its_dumps(rt: HostRuntime) -> Result<(), TestFail>
         called.out.printed(),
         b"done cycles=1 blocks=1 total=32896000\n".as_slice()
     );
-    assert_eq!(rt; called.depot.written().len(), 2);
+    assert_eq!(rt; called.depot.written().len(), 3);
     for (at, name) in ["out/many.000000.dump", "out/many.000001.dump"]
         .iter()
         .enumerate()
@@ -154,7 +168,7 @@ fn a_sure_depot_takes_the_run(rt: HostRuntime) -> Result<(), TestFail> {
     let mut out = MemSink::new(alloc, 0);
     let status = mesh_plain(alloc, words.as_slice(), &mut depot, &mut out);
     assert_eq!(rt; status, Status::Done);
-    assert_eq!(rt; depot.written().len(), 3);
+    assert_eq!(rt; depot.written().len(), 4);
     Ok(())
 }
 

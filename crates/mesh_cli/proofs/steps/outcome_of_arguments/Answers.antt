@@ -1,7 +1,16 @@
+use Rattle.std.proofs.Common.{List, Option, sym, subst}
+use Rattle.std.specs.Option.{ForSome}
+use Rattle.mesh_outside.specs.declared.files.Gained.{Gained}
+use Rattle.mesh_outside.specs.Gained.{IsClosed}
 use Rattle.mesh_words.specs.Seen.{seen_arguments, seen_source}
 use Rattle.mesh_input.specs.Input.{seen_input}
 use Rattle.mesh_cli.proofs.StepLemmas.{fault_ends, input_ends, source_after, source_fault_after, taken_written}
 use Rattle.mesh_cli.proofs.steps.outcome_of_arguments.Goals as goal
+
+pub outcome_of_input-requires : goal.outcome_of_input-requires
+outcome_of_input-requires g c =
+    subst (λ (w : Option (List Gained)). ForSome w IsClosed)
+    (sym (taken_written (seen_source c.args.arguments.now.source) _ _ _ c.in-Ok.ensures.after)) c.requires.closed
 
 pub returns-in-Ok-clause-ends : goal.returns-in-Ok-clause-ends
 returns-in-Ok-clause-ends g c =

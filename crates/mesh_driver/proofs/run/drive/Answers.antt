@@ -1,61 +1,92 @@
-use Rattle.std.proofs.Common.{◌≡◌, ◌+◌, ◌≤◌, ap, ◌∙◌, arith}
+use Rattle.std.proofs.Common.{◌≡◌, ◌+◌, ◌≤◌, ℕ, ap, subst, sym, ◌∙◌, arith}
+use Rattle.std.proofs.lemmas.Result.{err_from_is_err_and}
 use Rattle.problem_set.specs.Settings.{Settings}
 use Rattle.problem_set.specs.SettingsOf.{settings_of}
-use Rattle.dense_model.specs.RunFiles.{RunAt}
-use Rattle.std.proofs.lemmas.Result.{err_from_is_err_and}
-use Rattle.mesh_outside.proofs.Afters.{writes_as, writes_on, writes_then}
+use Rattle.dense_model.specs.RunFiles.{IsRunning, RunAt, run_of}
+use Rattle.mesh_outside.proofs.Afters.{writes_on, writes_then}
 use Rattle.mesh_driver.specs.declared.run.RunEnd.{RunEnd}
 use Rattle.mesh_driver.proofs.Faults.{fault_again}
-use Rattle.mesh_outside.proofs.Exits.{always_on_err}
-use Rattle.mesh_driver.proofs.Cycles.{closed_behind, gains_next, nothing_of_run, started_closed, started_gains, started_stops, stops_at}
+use Rattle.mesh_driver.proofs.Cycles.{closed_behind, gains_next, lines_more, nothing_gained, started_gains, started_lines}
+use Rattle.mesh_driver.proofs.Stopping.{all_gained, history_stops, stops_at_start, stops_in}
 use Rattle.mesh_driver.proofs.run.drive.Goals as goal
 
 pub returns-in_err-run-clause-err : goal.returns-in_err-run-clause-err
-returns-in_err-run-clause-err g c = always_on_err _ (nothing_of_run (settings_of c.args.problem.now) c.args.prefix.now (g.D.Depot.seen c.args.depot.now).written)
+returns-in_err-run-clause-err g c =
+    let p = err_from_is_err_and c.from_residual.result c.from_residual.ensures.1 in
+    rw (p.1, p.2) (stops_at_start (settings_of c.args.problem.now) c.args.prefix.now (g.D.Depot.seen c.args.depot.now).written _ c.in_err-run.ensures.fault)
 
-pub returns-in_err-write_dump-clause-err : goal.returns-in_err-write_dump-clause-err
-returns-in_err-write_dump-clause-err g c =
-    always_on_err _ (started_stops _ c.args.prefix.now c.in_ok-run.run' _ _ c.in_ok-run.ensures c.in_err-write_dump.ensures.err)
+pub returns-in_err-write_opening-clause-err : goal.returns-in_err-write_opening-clause-err
+returns-in_err-write_opening-clause-err g c =
+    let least : 0 ≤ c.args.problem.now.nlim = omega arith in
+    let p = err_from_is_err_and c.from_residual-in_err-write_opening.result c.from_residual-in_err-write_opening.ensures.1 in
+    rw (p.1, p.2) (stops_in (settings_of c.args.problem.now) c.args.prefix.now 0 _ _ _ _ least (nothing_gained (g.D.Depot.seen c.args.depot.now).written) c.in_err-write_opening.ensures.err)
 
 pub cycles-init : goal.cycles-init
 cycles-init g c =
-    let none : c.in_ok-run.run'.cycle ≡ 0 = ap (λ (r : RunAt). r.cycle) c.in_ok-run.ensures in (
-      ap (λ (r : RunAt). r.problem) c.in_ok-run.ensures,
-      omega arith,
-      started_gains _ c.args.prefix.now c.in_ok-run.run' _ _ c.in_ok-run.ensures c.in_ok-write_dump.ensures.ok,
-      started_closed _ c.args.prefix.now c.in_ok-run.run' _ _ c.in_ok-run.ensures c.in_ok-write_dump.ensures.ok c.requires.closed,
-      writes_on _ _ _ c.in_ok-write_dump.ensures.after (λ is. absurd (cc)),
-    )
+    let p = settings_of c.args.problem.now in
+    let none : c.in_ok-run.run'.cycle ≡ 0 = ap (λ (r : RunAt). r.cycle) c.in_ok-run.ensures.started in
+    let gained = c.in_ok-write_opening.ensures.ok in
+    record {
+      same = ap (λ (r : RunAt). r.problem) c.in_ok-run.ensures.started;
+      within = omega (arith, none);
+      running = subst (λ (k : ℕ). IsRunning (run_of p k)) (sym none) c.in_ok-run.ensures.running;
+      gained = started_gains p c.args.prefix.now c.in_ok-run.run'.cycle _ _ none gained;
+      closed = closed_behind p c.args.prefix.now 0 _ _ gained c.requires;
+      lines = started_lines p c.in_ok-run.run'.cycle _ _ none c.new-history.ensures.items c.in_ok-write_opening.ensures.lines;
+      after = writes_on _ _ _ c.in_ok-write_opening.ensures.after (λ is. absurd (cc));
+    }
 
 pub cycles-preserved : goal.cycles-preserved
 cycles-preserved g c =
+    let p = settings_of c.args.problem.now in
+    let before = c.cycles.invariant in
     let within : c.cycles.run.cycle + 1 ≤ c.cycles.run.problem.nlim = grind (arith, c.cycles-test.ensures) in
     let one_more : c.advance.new.run.cycle ≡ c.cycles.run.cycle + 1 = ap (λ (r : RunAt). r.cycle) c.in_ok-advance.ensures.next in
     let same : c.advance.new.run.problem ≡ c.cycles.run.problem = ap (λ (r : RunAt). r.problem) c.in_ok-advance.ensures.next in
-    let next : c.advance.new.run.cycle + 1 ≡ (c.cycles.run.cycle + 1) + 1 = omega arith in
-    let limit : c.advance.new.run.problem.nlim ≡ c.cycles.run.problem.nlim = ap (λ (p : Settings). p.nlim) same in (
-      same ∙ c.cycles.invariant.0,
-      omega arith,
-      gains_next _ c.args.prefix.now (c.cycles.run.cycle + 1) (c.advance.new.run.cycle + 1) _ _ _ next c.cycles.invariant.2 c.in_ok-advance.ensures.ok,
-      closed_behind _ c.args.prefix.now (c.cycles.run.cycle + 1) _ _ c.in_ok-advance.ensures.ok c.cycles.invariant.3,
-      writes_then _ _ _ _ _ _ c.cycles.invariant.4 (λ x. x) c.in_ok-advance.ensures.after (λ is. absurd (cc)) (λ x. absurd x),
-    )
+    let next : c.advance.new.run.cycle + 1 ≡ (c.cycles.run.cycle + 1) + 1 = omega (arith, one_more) in
+    let limit : c.advance.new.run.problem.nlim ≡ c.cycles.run.problem.nlim = ap (λ (q : Settings). q.nlim) same in
+    record {
+      same = same ∙ before.same;
+      within = omega (arith, within, one_more, limit);
+      running = subst (λ (k : ℕ). IsRunning (run_of p k)) (sym one_more) c.in_ok-advance.ensures.running;
+      gained = gains_next p c.args.prefix.now (c.cycles.run.cycle + 1) (c.advance.new.run.cycle + 1) _ _ _ next before.gained c.in_ok-advance.ensures.ok;
+      closed = closed_behind p c.args.prefix.now (c.cycles.run.cycle + 1) _ _ c.in_ok-advance.ensures.ok before.closed;
+      lines = lines_more p c.cycles.run.cycle c.advance.new.run.cycle _ _ one_more before.lines c.in_ok-advance.ensures.lines;
+      after = writes_then _ _ _ _ _ _ before.after (λ x. x) c.in_ok-advance.ensures.after (λ is. absurd (cc)) (λ x. absurd x);
+    }
 
 pub returns-in_err-advance-clause-err : goal.returns-in_err-advance-clause-err
 returns-in_err-advance-clause-err g c =
     let within : c.cycles.run.cycle + 1 ≤ c.cycles.run.problem.nlim = grind (arith, c.cycles-test.ensures) in
-    let limit : c.cycles.run.problem.nlim ≡ _ = ap (λ (p : Settings). p.nlim) c.cycles.invariant.0 in
-    always_on_err _ (stops_at _ c.args.prefix.now (c.cycles.run.cycle + 1) _ _ _ (omega arith) c.cycles.invariant.2 c.in_err-advance.ensures.err)
-
-pub returns-in_err-write_dump-clause-after : goal.returns-in_err-write_dump-clause-after
-returns-in_err-write_dump-clause-after g c =
-    let p = err_from_is_err_and c.from_residual-in_err-write_dump.result c.from_residual-in_err-write_dump.ensures.1 in
-    rw (p.1, p.2) (fault_again {T = Unit {0}} {U = RunEnd} c.in_err-write_dump.field-0.0 _ _ c.in_err-write_dump.ensures.after)
+    let limit : c.cycles.run.problem.nlim ≡ c.args.problem.now.nlim = ap (λ (q : Settings). q.nlim) c.cycles.invariant.same in
+    let p = err_from_is_err_and c.from_residual-in_err-advance.result c.from_residual-in_err-advance.ensures.1 in
+    rw (p.1, p.2) (stops_in (settings_of c.args.problem.now) c.args.prefix.now (c.cycles.run.cycle + 1) _ _ _ _ (omega (arith, within, limit)) c.cycles.invariant.gained c.in_err-advance.ensures.err)
 
 pub returns-in_err-advance-clause-after : goal.returns-in_err-advance-clause-after
 returns-in_err-advance-clause-after g c =
     let p = err_from_is_err_and c.from_residual-in_err-advance.result c.from_residual-in_err-advance.ensures.1 in
-    rw (p.1, p.2) (writes_then _ _ _ _ _ _ c.cycles.invariant.4 (λ x. x) (fault_again {T = Unit {0}} {U = RunEnd} c.in_err-advance.field-0.0 _ _ c.in_err-advance.ensures.after) (λ x. x) (λ x. x))
+    rw (p.1, p.2) (writes_then _ _ _ _ _ _ c.cycles.invariant.after (λ x. x) (fault_again {T = Unit {0}} {U = RunEnd} c.in_err-advance.field-0.0 _ _ c.in_err-advance.ensures.after) (λ x. x) (λ x. x))
+
+pub returns-in_err-write_history-clause-err : goal.returns-in_err-write_history-clause-err
+returns-in_err-write_history-clause-err g c =
+    let before = c.cycles.invariant in
+    let last : c.cycles.run.cycle ≡ c.cycles.run.problem.nlim = grind (arith, c.cycles-test.ensures) in
+    let limit : c.cycles.run.problem.nlim ≡ c.args.problem.now.nlim = ap (λ (q : Settings). q.nlim) before.same in
+    let p = err_from_is_err_and c.from_residual-in_err-write_history.result c.from_residual-in_err-write_history.ensures.1 in
+    rw (p.1, p.2) (history_stops (settings_of c.args.problem.now) c.args.prefix.now c.cycles.run.cycle _ _ _ _ _ (last ∙ limit) before.running before.lines before.gained c.in_err-write_history.ensures.err)
+
+pub returns-in_err-write_history-clause-after : goal.returns-in_err-write_history-clause-after
+returns-in_err-write_history-clause-after g c =
+    let p = err_from_is_err_and c.from_residual-in_err-write_history.result c.from_residual-in_err-write_history.ensures.1 in
+    rw (p.1, p.2) (writes_then _ _ _ _ _ _ c.cycles.invariant.after (λ x. x) (fault_again {T = Unit {0}} {U = RunEnd} c.in_err-write_history.field-0.0 _ _ c.in_err-write_history.ensures.after) (λ x. x) (λ x. x))
+
+pub returns-clause-ok : goal.returns-clause-ok
+returns-clause-ok g c =
+    let before = c.cycles.invariant in
+    let last : c.cycles.run.cycle ≡ c.cycles.run.problem.nlim = grind (arith, c.cycles-test.ensures) in
+    let limit : c.cycles.run.problem.nlim ≡ c.args.problem.now.nlim = ap (λ (q : Settings). q.nlim) before.same in
+    all_gained (settings_of c.args.problem.now) c.args.prefix.now c.cycles.run.cycle _ _ _ _ (last ∙ limit) before.running before.lines before.gained c.in_ok-write_history.ensures.ok
 
 pub returns-clause-after : goal.returns-clause-after
-returns-clause-after g c = writes_as ⊥ _ _ _ c.cycles.invariant.4 (λ x. absurd x) (λ is. cc)
+returns-clause-after g c =
+    writes_then _ _ _ _ _ _ c.cycles.invariant.after (λ x. x) c.in_ok-write_history.ensures.after (λ is. absurd (cc)) (λ is. absurd (cc))
