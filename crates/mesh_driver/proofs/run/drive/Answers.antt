@@ -5,7 +5,7 @@ use Rattle.problem_set.specs.SettingsOf.{settings_of}
 use Rattle.dense_model.specs.RunFiles.{IsRunning, RunAt, run_of}
 use Rattle.mesh_outside.proofs.Afters.{writes_on, writes_then}
 use Rattle.mesh_driver.specs.declared.run.RunEnd.{RunEnd}
-use Rattle.mesh_driver.proofs.Faults.{fault_again}
+use Rattle.mesh_driver.proofs.Faults.{fault_again, well}
 use Rattle.mesh_driver.proofs.Cycles.{closed_behind, gains_next, lines_more, nothing_gained, started_gains, started_lines}
 use Rattle.mesh_driver.proofs.Stopping.{all_gained, history_stops, stops_at_start, stops_in}
 use Rattle.mesh_driver.proofs.run.drive.Goals as goal
@@ -33,7 +33,7 @@ cycles-init g c =
       gained = started_gains p c.args.prefix.now c.in_ok-run.run'.cycle _ _ none gained;
       closed = closed_behind p c.args.prefix.now 0 _ _ gained c.requires;
       lines = started_lines p c.in_ok-run.run'.cycle _ _ none c.new-history.ensures.items c.in_ok-write_opening.ensures.lines;
-      after = writes_on _ _ _ c.in_ok-write_opening.ensures.after (λ is. absurd (cc));
+      after = writes_on _ _ _ c.in_ok-write_opening.ensures.after (λ is. absurd (well _ _ is));
     }
 
 pub cycles-preserved : goal.cycles-preserved
@@ -52,7 +52,7 @@ cycles-preserved g c =
       gained = gains_next p c.args.prefix.now (c.cycles.run.cycle + 1) (c.advance.new.run.cycle + 1) _ _ _ next before.gained c.in_ok-advance.ensures.ok;
       closed = closed_behind p c.args.prefix.now (c.cycles.run.cycle + 1) _ _ c.in_ok-advance.ensures.ok before.closed;
       lines = lines_more p c.cycles.run.cycle c.advance.new.run.cycle _ _ one_more before.lines c.in_ok-advance.ensures.lines;
-      after = writes_then _ _ _ _ _ _ before.after (λ x. x) c.in_ok-advance.ensures.after (λ is. absurd (cc)) (λ x. absurd x);
+      after = writes_then _ _ _ _ _ _ before.after (λ x. x) c.in_ok-advance.ensures.after (λ is. absurd (well _ _ is)) (λ x. absurd x);
     }
 
 pub returns-in_err-advance-clause-err : goal.returns-in_err-advance-clause-err
@@ -89,4 +89,19 @@ returns-clause-ok g c =
 
 pub returns-clause-after : goal.returns-clause-after
 returns-clause-after g c =
-    writes_then _ _ _ _ _ _ c.cycles.invariant.after (λ x. x) c.in_ok-write_history.ensures.after (λ is. absurd (cc)) (λ is. absurd (cc))
+    writes_then _ _ _ _ _ _ c.cycles.invariant.after (λ x. x) c.in_ok-write_history.ensures.after (λ is. absurd (well _ _ is)) (λ is. absurd (well _ _ is))
+
+pub returns-in_err-write_opening-clause-after : goal.returns-in_err-write_opening-clause-after
+returns-in_err-write_opening-clause-after g c =
+    let p = err_from_is_err_and c.from_residual-in_err-write_opening.result c.from_residual-in_err-write_opening.ensures.1 in
+    rw (p.1, p.2) (fault_again {T = Unit {0}} {U = RunEnd} c.in_err-write_opening.field-0.0 _ _ c.in_err-write_opening.ensures.after)
+
+pub advance-requires-clause-unfinished : goal.advance-requires-clause-unfinished
+advance-requires-clause-unfinished g c = let within : c.cycles.run.cycle + 1 ≤ c.cycles.run.problem.nlim = grind (arith, c.cycles-test.ensures) in omega (arith, within)
+
+pub returns-clause-completed : goal.returns-clause-completed
+returns-clause-completed g c =
+    let before = c.cycles.invariant in
+    let last : c.cycles.run.cycle ≡ c.cycles.run.problem.nlim = grind (arith, c.cycles-test.ensures) in
+    let limit : c.cycles.run.problem.nlim ≡ c.args.problem.now.nlim = ap (λ (q : Settings). q.nlim) before.same in
+    subst (λ (n : ℕ). IsRunning (run_of (settings_of c.args.problem.now) n)) (last ∙ limit) before.running
