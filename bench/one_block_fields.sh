@@ -1,12 +1,12 @@
 #!/usr/bin/env bash
-# Measures a run of one block of 64 cells with 256 fields over 20,000 cycles of one stage, with a dump at the
+# Measures a run of one block of 64 cells with 256 fields over 2,000 cycles of one stage, with a dump at the
 # opening and at the end. Prints the machine's processor, the time, the cell updates a second, and the peak memory.
 set -eu
 export LC_ALL=C
 
 cells=64
 fields=256
-cycles=${1:-20000}
+cycles=${1:-2000}
 
 top=$(cd "$(dirname "$(readlink -f "${BASH_SOURCE[0]}")")/.." && pwd)
 program=$top/crates/parthenon_whole/out/parthenon_whole
