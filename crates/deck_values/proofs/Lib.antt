@@ -1,6 +1,6 @@
-pub mod Digits
 pub mod BlockNameLemmas
 pub mod Each
 pub mod Loops
 pub mod Spaces
 pub mod EachSome
+pub mod Signs

@@ -1,18 +1,14 @@
 -- The forms of numbers and names.
-use Rattle.std.specs.Prelude.{◌==◌, ◌&&◌, ◌||◌, if◌then◌else◌, nat_lt, ℕ, ℤ, pos, neg_ℤ, Bool, [], ◌∷◌, length, Option, Some, None, option_map}
+use Rattle.std.specs.Prelude.{◌==◌, ◌&&◌, ◌||◌, if◌then◌else◌, nat_lt, ℕ, ℤ, pos, neg_ℤ, Bool, [], ◌∷◌, length, Option, None, option_map}
 use Rattle.std.specs.List.{list_all}
-use Rattle.std.specs.Char.{is_ascii_digit, is_ascii_alphanumeric}
+use Rattle.std.specs.Char.{is_ascii_alphanumeric}
 use Rattle.std.specs.Str.{byte}
-use Rattle.std.specs.Str.Parse.{digits_value}
+use Rattle.mesh_num.specs.Decimal.{from_decimal}
 use Rattle.input_file.specs.Texts.{Text}
 
--- 1 to 19 decimal digits
-abbrev pub is_number : Text → Bool
-is_number text = nat_lt 0 (length text) && nat_lt (length text) 20 && list_all is_ascii_digit text
-
--- the number that a text writes
+-- the number that a text writes in 1 to 19 decimal digits
 abbrev pub number_of : Text → Option ℕ
-number_of text = if is_number text then Some (digits_value 10 text) else None
+number_of text = from_decimal 19 text
 
 -- the number that a text writes, with one `-` before it where it is negative
 abbrev pub signed_of : Text → Option ℤ

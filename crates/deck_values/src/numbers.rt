@@ -1,36 +1,18 @@
 ghost use Rattle.std.specs.Prelude.{◌≡◌, ◌<◌};
-ghost use Rattle.std.specs.Char.{is_ascii_digit};
 ghost use Rattle.std.specs.List.{list_all};
-ghost use Rattle.deck_values.specs.Numbers.{is_number, number_of, signed_of, is_name_byte, is_name};
+ghost use Rattle.deck_values.specs.Numbers.{number_of, signed_of, is_name_byte, is_name};
 
-/// Whether each byte is a decimal digit.
-fn has_digits_only(text: &str) -> bool
-    ensures { result ≡ list_all is_ascii_digit text.now }
-{
-    text.bytes().all(|b| b.is_ascii_digit())
-}
-
-/// Whether a text is 1 to 19 decimal digits.
-fn is_number(text: &str) -> bool
-    ensures { result ≡ is_number text.now }
-{
-    0 < text.len() && text.len() < 20 && has_digits_only(text)
-}
+use mesh_num::from_decimal;
 
 /// The number that a text writes in 1 to 19 decimal digits.
-#[tactic(auto, using(crate::proofs::Digits::number_from_parse))]
 pub fn number_of(text: &str) -> Option<u64>
     ensures { result ≡ number_of text.now }
 {
-    if is_number(text) {
-        text.parse::<u64>().ok()
-    } else {
-        None
-    }
+    from_decimal(text, 19)
 }
 
 /// The number that a text writes in 1 to 19 decimal digits, perhaps with one `-` before them.
-#[tactic(auto, using(crate::proofs::Digits::signed_without_minus))]
+#[tactic(auto, using(crate::proofs::Signs::signed_without_minus))]
 pub fn signed_of(text: &str) -> Option<i128>
     ensures { result ≡ signed_of text.now }
 {

@@ -29,7 +29,7 @@ decimal-digits n h = all-digits (decimal n) (digits_decimal (numerals_by_value (
 number-read : (ds : Text) (n : ℕ) → 0 < length ds → length ds < 20 → list_all is_ascii_digit ds ≡ true → digits_value 10 ds ≡ n → number_of ds ≡ Some n
 number-read ds n some short all value =
     let least : nat_lt 0 (length ds) ≡ true = grind (arith, nat_tests) in
-    let most : nat_lt (length ds) 20 ≡ true = grind (arith, nat_tests) in
+    let most : nat_le (length ds) 19 ≡ true = grind (arith, nat_tests) in
     rw (least, most, all, value) refl
 
 -- a number reads back

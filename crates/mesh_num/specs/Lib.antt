@@ -1,3 +1,4 @@
+pub mod Decimal
 pub mod Portion
 pub mod Rate
 pub mod Share

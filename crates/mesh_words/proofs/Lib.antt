@@ -1,3 +1,2 @@
-pub mod NumberLemmas
 pub mod ReadLemmas
 pub mod RowLemmas

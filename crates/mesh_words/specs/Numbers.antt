@@ -1,18 +1,13 @@
 -- Numbers among the words.
 use Rattle.std.specs.Prelude.{◌&&◌, nat_lt, nat_le, ℕ, Bool, length}
-use Rattle.std.specs.List.{list_all}
-use Rattle.std.specs.Char.{is_ascii_digit}
 use Rattle.std.specs.Str.Parse.{digits_value}
+use Rattle.mesh_num.specs.Decimal.{is_decimal}
 use Rattle.clap.specs.Words.{Text}
-
--- 1 to 10 decimal digits
-abbrev pub is_number : Text → Bool
-is_number text = nat_lt 0 (length text) && nat_lt (length text) 11 && list_all is_ascii_digit text
 
 -- 1 to 10 decimal digits of a value between these
 abbrev pub is_number_within : ℕ → ℕ → Text → Bool
 is_number_within least greatest text =
-    is_number text && nat_le least (digits_value 10 text) && nat_le (digits_value 10 text) greatest
+    is_decimal 10 text && nat_le least (digits_value 10 text) && nat_le (digits_value 10 text) greatest
 
 -- a number of workers: 1 to 64
 abbrev pub is_workers : Text → Bool

@@ -1,31 +1,14 @@
-ghost use Rattle.std.specs.Prelude.{◌≡◌, Some, None, if◌then◌else◌};
-ghost use Rattle.std.specs.List.{list_all};
-ghost use Rattle.std.specs.Char.{is_ascii_digit};
-ghost use Rattle.std.specs.Str.Parse.{digits_value};
-ghost use Rattle.mesh_words.specs.Numbers.{is_number, is_number_within, is_workers, is_seed, is_prefix};
+ghost use Rattle.std.specs.Prelude.{◌≡◌};
+ghost use Rattle.mesh_num.specs.Decimal.{from_decimal};
+ghost use Rattle.mesh_words.specs.Numbers.{is_number_within, is_workers, is_seed, is_prefix};
 
-fn has_digits_only(text: &str) -> bool
-    ensures { result ≡ list_all is_ascii_digit text.now }
-{
-    text.bytes().all(|b| b.is_ascii_digit())
-}
-
-fn is_number(text: &str) -> bool
-    ensures { result ≡ is_number text.now }
-{
-    0 < text.len() && text.len() < 11 && has_digits_only(text)
-}
+use mesh_num::from_decimal;
 
 /// The number that a text writes in 1 to 10 decimal digits.
-#[tactic(auto, using(crate::proofs::NumberLemmas::number_from_parse))]
 pub fn number_of(text: &str) -> Option<u64>
-    ensures { result ≡ (if is_number text.now then Some (digits_value 10 text.now) else None) }
+    ensures { result ≡ from_decimal 10 text.now }
 {
-    if is_number(text) {
-        text.parse::<u64>().ok()
-    } else {
-        None
-    }
+    from_decimal(text, 10)
 }
 
 fn is_number_within(text: &str, least: u64, greatest: u64) -> bool
