@@ -27,14 +27,22 @@ is_slash b = b == byte "/"
 abbrev pub is_hash : ℕ → Bool
 is_hash b = b == byte "#"
 
+-- the text without the bytes at its start that pass a test
+abbrev pub without_leading_by : (ℕ → Bool) → Text → Text
+without_leading_by test [] = []
+without_leading_by test (b ∷ bs) = cond (test b) (without_leading_by test bs) (b ∷ bs)
+
+-- the text without the bytes at its end that pass a test
+abbrev pub without_trailing_by : (ℕ → Bool) → Text → Text
+without_trailing_by test t = reverse (without_leading_by test (reverse t))
+
 -- the text without the blanks at its start
 abbrev pub without_leading : Text → Text
-without_leading [] = []
-without_leading (b ∷ bs) = cond (is_blank b) (without_leading bs) (b ∷ bs)
+without_leading t = without_leading_by is_blank t
 
 -- the text without the blanks at its end
 abbrev pub without_trailing : Text → Text
-without_trailing t = reverse (without_leading (reverse t))
+without_trailing t = without_trailing_by is_blank t
 
 -- the text without the blanks at both ends
 abbrev pub trimmed : Text → Text

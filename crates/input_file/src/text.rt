@@ -1,6 +1,6 @@
-ghost use Rattle.std.specs.Prelude.{◌≡◌, ◌<◌, length, IfNone, IfSome};
+ghost use Rattle.std.specs.Prelude.{◌≡◌};
 ghost use Rattle.std.specs.List.{list_any};
-ghost use Rattle.input_file.specs.Texts.{trimmed, without_leading, without_trailing, is_trimmed, is_empty};
+ghost use Rattle.input_file.specs.Texts.{trimmed, is_trimmed, is_empty};
 ghost use Rattle.input_file.specs.Texts.{is_block_name, is_key, is_value, is_barred, is_barred_in_block};
 ghost use Rattle.input_file.specs.Texts.{is_barred_in_key};
 
@@ -8,49 +8,7 @@ ghost use Rattle.input_file.specs.Texts.{is_barred_in_key};
 pub fn trim(text: &str) -> &str
     ensures { result.now ≡ trimmed text.now }
 {
-    trim_end(trim_start(text))
-}
-
-fn trim_start(text: &str) -> &str
-    ensures { result.now ≡ without_leading text.now }
-{
-    let mut rest = text;
-    while let Some(after) = strip_first_blank(rest) {
-        rest = after;
-    }
-    rest
-}
-
-fn trim_end(text: &str) -> &str
-    ensures { result.now ≡ without_trailing text.now }
-{
-    let mut rest = text;
-    while let Some(before) = strip_last_blank(rest) {
-        rest = before;
-    }
-    rest
-}
-
-fn strip_first_blank(text: &str) -> Option<&str>
-    ensures none { IfNone result (without_leading text.now ≡ text.now) }
-    ensures some { IfSome result (λ x. without_leading text.now ≡ without_leading x.now) }
-    ensures shorter { IfSome result (λ x. length x.now < length text.now) }
-{
-    if let Some(after) = text.strip_prefix(' ') {
-        return Some(after);
-    }
-    text.strip_prefix('\t')
-}
-
-fn strip_last_blank(text: &str) -> Option<&str>
-    ensures none { IfNone result (without_trailing text.now ≡ text.now) }
-    ensures some { IfSome result (λ x. without_trailing text.now ≡ without_trailing x.now) }
-    ensures shorter { IfSome result (λ x. length x.now < length text.now) }
-{
-    if let Some(before) = text.strip_suffix(' ') {
-        return Some(before);
-    }
-    text.strip_suffix('\t')
+    text.trim_matches([' ', '\t'])
 }
 
 /// Whether the text has no space or tab at either end.
