@@ -1,9 +1,9 @@
 -- The lists that keys of a field block are set to: flags and ids.
-use Rattle.std.specs.Prelude.{◌==◌, nat_le, if◌then◌else◌, ℕ, List, [], ◌∷◌, Option, Some, None, cond, reverse, option_and_then, option_map, codes}
+use Rattle.std.specs.Prelude.{◌==◌, nat_le, if◌then◌else◌, ℕ, Bool, List, [], ◌∷◌, Option, Some, None, option_and_then, option_map, codes}
 use Rattle.std.specs.List.{list_any, slice_split}
 use Rattle.std.specs.Ordering.{nat_cmp}
 use Rattle.std.specs.BTreeSet.{insert_key}
-use Rattle.input_file.specs.Texts.{Text}
+use Rattle.input_file.specs.Texts.{Text, without_leading_by, without_trailing_by}
 use Rattle.package_fields.specs.declared.flag.Flag.{Flag}
 use Rattle.package_fields.specs.declared.flag.Flag.TheVariants.{Cell, Independent, Derived, OneCopy, FillGhost, WithFluxes, Sparse}
 use Rattle.deck_values.specs.Numbers.{number_of}
@@ -13,14 +13,13 @@ use Rattle.deck_values.specs.BlockReader.{named}
 abbrev pub items_of : Text → List Text
 items_of text = slice_split (λ b. b == 44) text
 
--- the text without the spaces at its start
-abbrev pub without_leading_spaces : Text → Text
-without_leading_spaces [] = []
-without_leading_spaces (b ∷ bs) = cond (b == 32) (without_leading_spaces bs) (b ∷ bs)
+-- a space
+abbrev pub is_space : ℕ → Bool
+is_space b = b == 32
 
--- the text without the spaces at its end
-abbrev pub without_trailing_spaces : Text → Text
-without_trailing_spaces text = reverse (without_leading_spaces (reverse text))
+-- the text without the spaces at both ends
+abbrev pub without_spaces : Text → Text
+without_spaces text = without_trailing_by is_space (without_leading_by is_space text)
 
 -- what each item stands for, where each stands for something
 abbrev pub each_some : {A B : Type 0} → (A → Option B) → List A → Option (List B)
@@ -34,7 +33,7 @@ flag_named =
 
 -- a flag, with spaces around it dropped
 abbrev pub flag_of : Text → Option Flag
-flag_of item = flag_named (without_trailing_spaces (without_leading_spaces item))
+flag_of item = flag_named (without_spaces item)
 
 -- flags between commas
 unfoldable pub flags_of : Text → Option (List Flag)

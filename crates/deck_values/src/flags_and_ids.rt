@@ -1,7 +1,7 @@
 //! The lists that keys of a field block are set to: flags and ids.
 
-ghost use Rattle.std.specs.Prelude.{◌≡◌, ◌<◌, [], IfOk, IfNone, IfSome, Some, length, map, option_map, slice_get};
-ghost use Rattle.deck_values.specs.FlagsAndIds.{flag_named, items_of, without_leading_spaces, without_trailing_spaces, each_some, flag_of, flags_of, id_of, rising_after, ids_of};
+ghost use Rattle.std.specs.Prelude.{◌≡◌, ◌<◌, [], IfOk, Some, length, map, option_map, slice_get};
+ghost use Rattle.deck_values.specs.FlagsAndIds.{flag_named, items_of, each_some, flag_of, flags_of, id_of, rising_after, ids_of};
 
 use crate::numbers::number_of;
 use package_fields::{Flag, Flags, Items};
@@ -43,45 +43,7 @@ fn flag_named(name: &str) -> Option<Flag>
 fn flag_of(item: &str) -> Option<Flag>
     ensures { result ≡ flag_of item.now }
 {
-    flag_named(trim_end_spaces(trim_start_spaces(item)))
-}
-
-/// The text without the spaces at its start.
-fn trim_start_spaces(text: &str) -> &str
-    ensures { result.now ≡ without_leading_spaces text.now }
-{
-    let mut rest = text;
-    while let Some(after) = strip_first_space(rest) {
-        rest = after;
-    }
-    rest
-}
-
-/// The text without the spaces at its end.
-fn trim_end_spaces(text: &str) -> &str
-    ensures { result.now ≡ without_trailing_spaces text.now }
-{
-    let mut rest = text;
-    while let Some(before) = strip_last_space(rest) {
-        rest = before;
-    }
-    rest
-}
-
-fn strip_first_space(text: &str) -> Option<&str>
-    ensures none { IfNone result (without_leading_spaces text.now ≡ text.now) }
-    ensures some { IfSome result (λ x. without_leading_spaces text.now ≡ without_leading_spaces x.now) }
-    ensures shorter { IfSome result (λ x. length x.now < length text.now) }
-{
-    text.strip_prefix(' ')
-}
-
-fn strip_last_space(text: &str) -> Option<&str>
-    ensures none { IfNone result (without_trailing_spaces text.now ≡ text.now) }
-    ensures some { IfSome result (λ x. without_trailing_spaces text.now ≡ without_trailing_spaces x.now) }
-    ensures shorter { IfSome result (λ x. length x.now < length text.now) }
-{
-    text.strip_suffix(' ')
+    flag_named(item.trim_matches(' '))
 }
 
 /// The flags between commas, or None where an item names no flag.
