@@ -7,10 +7,9 @@ ghost use Rattle.upwind_fluxes.specs.Fluxes.{OthersStay};
 ghost use Rattle.slope_kernel.specs.Slopes.{SlopesAlong, SlopesPaid};
 
 use crate::faces::write_slopes;
-use crate::sides::close_if;
 use block_layout::Layout;
 use morton_order::Side;
-use upwind_fluxes::Donor;
+use upwind_fluxes::{Donor, close_if};
 use upwind_portions::{Fraction, Tier};
 
 /// Writes what the cells at one side of the faces of an axis pay by a rate, where no total passes `greatest`.

@@ -2,7 +2,7 @@
 
 ghost use Rattle.std.specs.Prelude.{◌≡◌, ◌≤◌, ◌<◌, ◌^◌, length, All};
 ghost use Rattle.block_layout.specs.Layouts.{len};
-ghost use Rattle.block_layout.specs.Faces.{face_count, face_extents};
+ghost use Rattle.block_layout.specs.Faces.{face_count};
 ghost use Rattle.upwind_fluxes.specs.Fluxes.{OthersStay};
 ghost use Rattle.slope_kernel.specs.Beside.{cells_beside, faces_of, number_ahead, number_behind, number_here};
 ghost use Rattle.slope_kernel.specs.Slopes.{SlopesPaid};
@@ -10,22 +10,8 @@ ghost use Rattle.slope_kernel.specs.Slopes.{SlopesPaid};
 use block_layout::Layout;
 use box_updates::{BoxIn, update_box};
 use stage_rules::SlopePay;
-use upwind_fluxes::Donor;
+use upwind_fluxes::{Donor, face_extents};
 use upwind_portions::Portions;
-
-/// The faces of an axis along each axis: as many as cells, and one more along the axis itself.
-pub(crate) fn extents_of(layout: &Layout, axis: u32) -> [usize; 3]
-    requires { axis < layout.now.dims }
-    ensures { result ≡ face_extents layout.now axis }
-{
-    let mut extents = [
-        layout.cells[0] as usize,
-        layout.cells[1] as usize,
-        layout.cells[2] as usize,
-    ];
-    extents[axis as usize] += 1;
-    extents
-}
 
 /// The cells of one number beside the faces of an axis: 0 and 1 lie below the face, 2 and 3 above it, by rising coordinate.
 fn beside(layout: &Layout, axis: u32, number: usize) -> BoxIn
@@ -52,7 +38,7 @@ fn faces_in(layout: &Layout, axis: u32) -> BoxIn
 {
     BoxIn {
         first: layout.first_face(axis),
-        widths: extents_of(layout, axis),
+        widths: face_extents(layout, axis),
         low: [0, 0, 0],
     }
 }
@@ -109,7 +95,7 @@ pub(crate) fn write_slopes<P: Portions>(
     let next = beside(layout, axis, ahead(donor));
     update_box(
         &SlopePay { portions },
-        extents_of(layout, axis),
+        face_extents(layout, axis),
         into,
         faces_in(layout, axis),
         cells,

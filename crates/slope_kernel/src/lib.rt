@@ -10,7 +10,6 @@
 mod all_slopes;
 mod direction;
 mod faces;
-mod sides;
 #[cfg(test)]
 mod tests;
 

@@ -13,7 +13,7 @@ use cell_boxes::{BoxIn, write_box};
 use upwind_portions::Portions;
 
 /// The faces of an axis along each axis: as many as cells, and one more along the axis itself.
-pub(crate) fn extents_of(layout: &Layout, axis: u32) -> [usize; 3]
+pub fn face_extents(layout: &Layout, axis: u32) -> [usize; 3]
     requires { axis < layout.now.dims }
     ensures { result ≡ face_extents layout.now axis }
 {
@@ -62,7 +62,7 @@ pub(crate) fn write_portions<P: Portions>(
     ensures along { PaysAlong layout.now axis donor (P.rate portions) (P.denominator portions) cells.now into.new }
     ensures others { OthersStay layout.now axis into.old into.new }
 {
-    let extents = extents_of(layout, axis);
+    let extents = face_extents(layout, axis);
     let faces = BoxIn {
         first: layout.first_face(axis),
         widths: extents,

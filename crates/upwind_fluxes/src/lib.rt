@@ -21,7 +21,9 @@ mod tests;
 
 pub use all_faces::{fluxes, fluxes_by};
 pub use donor::Donor;
+pub use faces::face_extents;
 pub use greatest::greatest_bits;
 pub use multipliers::Multipliers;
 pub use portion_row::PortionRow;
 pub use rates::LevelRates;
+pub use sides::close_if;

@@ -6,7 +6,7 @@ ghost use Rattle.block_layout.specs.Faces.{face_count};
 ghost use Rattle.upwind_fluxes.specs.Fluxes.{OthersStay};
 ghost use Rattle.upwind_fluxes.specs.Sides.{ClosesIf, IsClosedAt, StaysOff, side_box, side_extents};
 
-use crate::faces::extents_of;
+use crate::faces::face_extents;
 use block_layout::Layout;
 use cell_boxes::{BoxIn, ZeroRow, write_box};
 use morton_order::Side;
@@ -22,7 +22,7 @@ fn faces_at(layout: &Layout, side: Side) -> BoxIn
     }
     BoxIn {
         first: layout.first_face(side.axis),
-        widths: extents_of(layout, side.axis),
+        widths: face_extents(layout, side.axis),
         low,
     }
 }
@@ -41,7 +41,7 @@ fn extents_at(layout: &Layout, side: Side) -> [usize; 3]
     extents
 }
 
-/// Nothing passes the faces at a side; all other faces stay as they are. The cells are read nowhere.
+/// Nothing passes the faces at a side; all other faces stay as they are.
 fn close_side(layout: &Layout, side: Side, cells: &[u64], into: &mut [u64])
     requires axis { side.axis < layout.now.dims }
     requires cells { length cells.now ≡ len layout.now }
@@ -65,8 +65,8 @@ fn close_side(layout: &Layout, side: Side, cells: &[u64], into: &mut [u64])
     );
 }
 
-/// The same where the side is closed; else every face stays as it is.
-pub(crate) fn close_if(layout: &Layout, side: Side, closed: bool, cells: &[u64], into: &mut [u64])
+/// Nothing passes the faces at a side that is closed; all other faces stay as they are. The cells are read nowhere.
+pub fn close_if(layout: &Layout, side: Side, closed: bool, cells: &[u64], into: &mut [u64])
     requires axis { side.axis < layout.now.dims }
     requires cells { length cells.now ≡ len layout.now }
     requires faces { length into.old ≡ face_count layout.now }
