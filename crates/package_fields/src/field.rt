@@ -1,5 +1,5 @@
 use crate::flag::Flags;
-use crate::items::Items;
+use item_lists::Items;
 use crate::name::Name;
 
 /// A field of a package: a total in each cell of each block.

@@ -1,7 +1,7 @@
 ghost use Rattle.std.specs.Prelude.{◌≡◌, count_by};
 ghost use Rattle.package_fields.specs.Flags.{same_flag, has, none_twice, permitted};
 
-use crate::items::Items;
+use item_lists::Items;
 
 /// What a field is marked with.
 #[derive(Clone, Copy, Debug, PartialEq, Eq)]

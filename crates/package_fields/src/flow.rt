@@ -1,7 +1,7 @@
 ghost use Rattle.std.specs.Prelude.{◌≡◌, ◌^◌};
 ghost use Rattle.package_fields.specs.Flow.{IsBelow, balanced};
 
-use crate::items::Items;
+use item_lists::Items;
 
 /// What changes the total of a field in a cycle: what passes the faces of the domain inwards and
 /// outwards, and what reactions make and use of it, each added up apart from the others.
