@@ -12,7 +12,8 @@ use Rattle.block_tree.specs.Tree.{IsBalanced, IsLeaf, IsTree, ancestor, is_node}
 use Rattle.block_tree.specs.Behind.{BehindIsExact, BehindIsMutual, Names, behind, behind_at, children_at, coarse, fine, is_high_half, same}
 use Rattle.block_tree.proofs.Ancestors.{ancestor_add, ancestor_inner, ancestor_inside, ancestor_level, ancestor_more, either_half, half-is, is_parity, node_parent, not_node, parent_node, parity, parity_other}
 use Rattle.block_tree.proofs.Chosen.{found, has}
-use Rattle.block_tree.proofs.Sides.{Crosses, IsAtEdge, crosses_of, touches_of}
+use Rattle.block_tree.proofs.Crossings.{crosses_of}
+use Rattle.block_tree.proofs.Sides.{Crosses, IsAtEdge, touches_of}
 
 -- an edge, by the half that each location on the way is
 record AtEdge (dims axis : ℕ) (high : Bool) (up : ℕ) (c l : Loc) : Type 0 where

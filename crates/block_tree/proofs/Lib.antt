@@ -2,6 +2,7 @@ pub mod Forced
 pub mod Ancestors
 mod Chosen
 mod Sides
+mod Crossings
 pub mod Behinds
 pub mod Changes
 pub mod LeafList
