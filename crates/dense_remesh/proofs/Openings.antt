@@ -17,7 +17,7 @@ use Rattle.block_tree.specs.Leaves.{inner_of, leaves_of}
 use Rattle.block_tree.specs.Blocks.{TreeOfBlocks, leaves, tree_with}
 use Rattle.block_tree.proofs.InnerList.{inner_test}
 use Rattle.block_tree.proofs.LeafList.{listed_leaf}
-use Rattle.problem_set.specs.declared.entries.StartBox.{StartBox}
+use Rattle.problem_set.specs.declared.problem_items.StartBox.{StartBox}
 use Rattle.problem_set.specs.declared.problem.Problem.{Problem}
 use Rattle.problem_set.specs.Rates.{box_total, span}
 use Rattle.problem_set.specs.SettingsOf.{settings_of}

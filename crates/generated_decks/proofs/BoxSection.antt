@@ -17,9 +17,9 @@ use Rattle.deck_generator.specs.declared.form.Form.{Form}
 use Rattle.deck_generator.specs.Values.{field_label}
 use Rattle.deck_generator.specs.Generated.{first_cell, box_name, box_settings, reaction_settings, criterion_settings}
 use Rattle.problem_set.specs.declared.words.Method.TheVariants.{Peak}
-use Rattle.problem_set.specs.declared.entries.StartBox.{StartBox}
-use Rattle.problem_set.specs.declared.entries.Reaction.{Reaction}
-use Rattle.problem_set.specs.declared.entries.Criterion.{Criterion}
+use Rattle.problem_set.specs.declared.problem_items.StartBox.{StartBox}
+use Rattle.problem_set.specs.declared.problem_items.Reaction.{Reaction}
+use Rattle.problem_set.specs.declared.problem_items.Criterion.{Criterion}
 use Rattle.problem_set.specs.Words.{method_named}
 use Rattle.problem_set.specs.EntryReaders.{span_at, part, field_labelled, label, amount, start_box, other_label, reaction, method, lower_amount, tolerances, criterion}
 use Rattle.generated_decks.proofs.NumberTexts.{number_of-decimal}

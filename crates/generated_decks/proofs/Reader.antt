@@ -12,8 +12,8 @@ use Rattle.deck_generator.specs.declared.form.Form.{Form}
 use Rattle.deck_generator.specs.Forms.{small, large_form}
 use Rattle.deck_generator.specs.Generated.{drawn, box_name, speed_text, generated_of, generated}
 use Rattle.problem_set.specs.declared.block_kinds.BlockNames.{BlockNames}
-use Rattle.problem_set.specs.declared.entries.StartBox.{StartBox}
-use Rattle.problem_set.specs.declared.entries.Criterion.{Criterion}
+use Rattle.problem_set.specs.declared.problem_items.StartBox.{StartBox}
+use Rattle.problem_set.specs.declared.problem_items.Criterion.{Criterion}
 use Rattle.problem_set.specs.declared.repeated_blocks.CountedBlocks.{CountedBlocks}
 use Rattle.problem_set.specs.declared.repeated_blocks.RepeatedBlocks.{RepeatedBlocks}
 use Rattle.problem_set.specs.Settings.{Settings}

@@ -17,7 +17,7 @@ use Rattle.package_fields.specs.Flags.{has}
 use Rattle.problem_set.specs.Settings.{Settings}
 use Rattle.problem_set.specs.SoundEntries.{IsFittingSum}
 use Rattle.problem_set.specs.Rates.{both_rates, downwards, left_rate, rate_sum, right_rate, upwards, velocity}
-use Rattle.problem_set.specs.declared.entries.Moves.{Moves}
+use Rattle.problem_set.specs.declared.problem_items.Moves.{Moves}
 use Rattle.problem_set.specs.declared.words.FaceKind.{FaceKind}
 use Rattle.problem_set.specs.declared.words.FaceKind.TheVariants.{Periodic, Outflow, Reflecting, Inflow}
 use Rattle.mesh_rules.specs.Sums.{sum_over, sum_to}

@@ -3,3 +3,5 @@ pub mod Prefix
 pub mod PackageLemmas
 pub mod KeptFlagLemmas
 pub mod RateLemmas
+pub mod ChainLemmas
+pub mod GatherLemmas

@@ -1,10 +1,12 @@
 -- Gathering the fields of packages.
-use Rattle.std.proofs.Common.{◌≡◌, ◌<◌, ◌+◌, ◌++◌, ◌∷◌, [], ◌⊎◌, inl, inr, ℕ, Bool, true, false, cond, List, length, get_or, map, filter, take, drop, fold, Option, Some, None, Result, Ok, Err, refl, sym, ap, ◌∙◌, subst, append_assoc, arith, length-append, All, take_all}
+use Rattle.std.proofs.Common.{◌≡◌, ◌<◌, ◌||◌, slice_get, ◌+◌, ◌++◌, ◌∷◌, [], ◌⊎◌, inl, inr, ℕ, Bool, true, false, cond, List, length, get_or, map, filter, take, drop, fold, Option, Some, None, Result, Ok, Err, refl, sym, ap, ◌∙◌, subst, append_assoc, arith, length-append, All, take_all}
 use Rattle.std.specs.List.{flat_map}
 use Rattle.std.specs.Str.{bytes_eq}
-use Rattle.std.proofs.lemmas.List.{append-nil, map-append, take_more, take-append-drop, length-map}
+use Rattle.std.proofs.lemmas.List.{append-nil, take-map, map-append, take_more, take-append-drop, length-map}
 use Rattle.std.proofs.lemmas.List.Elements.{filter-append, All-append, All-nil, All-push, All-head, All-tail}
 use Rattle.std.proofs.lemmas.Grind.{flat_map-append}
+use Rattle.std.proofs.lemmas.Option.{slice_get_within, get_or_from_slice_get}
+use Rattle.std.proofs.lemmas.Slice.Eq.{bytes_eq-Decides}
 use Rattle.input_file.specs.Texts.{Text}
 use Rattle.package_fields.specs.declared.field.Field.{Field}
 use Rattle.package_fields.specs.declared.field.Package.{Package}
@@ -13,11 +15,13 @@ use Rattle.package_fields.specs.Flags.{has}
 use Rattle.package_fields.specs.Fields.{Registered, is_among}
 use Rattle.deck_values.specs.declared.fault.ProblemFault.{ProblemFault}
 use Rattle.deck_values.specs.declared.fault.ProblemFault.TheVariants.{NoMemory}
-use Rattle.problem_set.specs.declared.entries.Moves.{Moves}
+use Rattle.problem_set.specs.declared.problem_items.Moves.{Moves}
 use Rattle.problem_set.specs.declared.field_blocks.FieldBlock.{FieldBlock}
 use Rattle.deck_values.specs.Reading.{◌>>=◌}
 use Rattle.problem_set.specs.SoundEntries.{IsMoves}
 use Rattle.problem_set.specs.FieldBlocks.{pool_field, fields_of}
+use Rattle.problem_set.specs.Kept.{kept_fields, kept_flags}
+use Rattle.problem_set.specs.PackageBlocks.{IsFirstFrom}
 use Rattle.problem_set.specs.Packages.{with_name, first_named, blocks_of, package_of, moves_of, package_moves, with_added, all_added, package_names, unless, with_package_once, moves_once, registered}
 use Rattle.package_fields.specs.declared.fault.FieldFault.{FieldFault}
 use Rattle.package_fields.specs.Registered.{package_fault, with_package}
@@ -30,13 +34,12 @@ map_const g m (x ∷ xs) = ap (λ l. m ∷ l) (map_const g m xs)
 pub moves_of_pool : (b : FieldBlock) → has Sparse b.flags ≡ true → moves_of b ≡ map (λ (id : ℕ). b.moves) b.ids
 moves_of_pool b e = rw e (map_const (pool_field b.name b.flags) b.moves b.ids)
 
--- one more block of a package
-pub blocks_more : {B : Type 0} (f : FieldBlock → List B) (blocks : List FieldBlock) (package_name : Text) (i : ℕ) (d : FieldBlock) → i < length blocks → flat_map f (blocks_of (take (i + 1) blocks) package_name) ≡ flat_map f (blocks_of (take i blocks) package_name) ++ flat_map f (blocks_of (get_or blocks i d ∷ []) package_name)
-blocks_more f blocks package_name i d lt =
-    let p = λ (b : FieldBlock). bytes_eq package_name b.package_name in
-    ap (λ (l : List FieldBlock). flat_map f (filter p l)) (take_more blocks i d lt)
-    ∙ ap (flat_map f) (filter-append p (take i blocks) (get_or blocks i d ∷ []))
-    ∙ flat_map-append f (filter p (take i blocks)) (filter p (get_or blocks i d ∷ []))
+-- the first fields of a pool
+pub first_of_pool : (b : FieldBlock) (r : ℕ) → has Sparse b.flags ≡ true → map (pool_field b.name (kept_flags b.flags)) (take r b.ids) ≡ take r (kept_fields b)
+first_of_pool b r e = rw e (sym (take-map (pool_field b.name (kept_flags b.flags)) r b.ids))
+
+pub first_moves_of_pool : (b : FieldBlock) (r : ℕ) → has Sparse b.flags ≡ true → map (λ (id : ℕ). b.moves) (take r b.ids) ≡ take r (moves_of b)
+first_moves_of_pool b r e = sym (take-map (λ (id : ℕ). b.moves) r b.ids) ∙ ap (take r) (sym (moves_of_pool b e))
 
 after_added : (ps qs : List Package) (a : Result Registered ProblemFault) → ((s : Registered) → all_added s (ps ++ qs) ≡ (all_added s ps >>= λ t. all_added t qs)) → (a >>= λ s. all_added s (ps ++ qs)) ≡ ((a >>= λ s. all_added s ps) >>= λ s. all_added s qs)
 after_added ps qs (Ok s) next = next s
@@ -84,7 +87,8 @@ pub record IsRegistered (blocks : List FieldBlock) (names : List Text) (r : Regi
   pub as_many : length moves ≡ length r.fields
   pub sound : All IsMoves moves
 
-length_moves : (bs : List FieldBlock) → length (flat_map moves_of bs) ≡ length (flat_map fields_of bs)
+-- as many moves as fields
+pub length_moves : (bs : List FieldBlock) → length (flat_map moves_of bs) ≡ length (flat_map fields_of bs)
 length_moves [] = refl
 length_moves (b ∷ bs) =
     length-append (moves_of b) (flat_map moves_of bs) ∙ ap (λ (n : ℕ). n + length (flat_map moves_of bs)) (length-map (fields_of b) (λ (f : Field). b.moves)) ∙ ap (λ (n : ℕ). length (fields_of b) + n) (length_moves bs) ∙ sym (length-append (fields_of b) (flat_map fields_of bs))
@@ -169,3 +173,45 @@ register_all blocks r moves s =
 -- nothing is registered at first
 pub register_none : (blocks : List FieldBlock) → IsRegistered blocks (package_names (take 0 blocks)) none_added []
 register_none blocks = record { packages = refl; added = refl; moved = refl; as_many = refl; sound = All-nil IsMoves }
+
+none_last : (ns : List Text) (n m : Text) → is_among (ns ++ n ∷ []) m ≡ false → (is_among ns m ≡ false) × (bytes_eq m n ≡ false)
+none_last [] n m e = (refl, last (bytes_eq m n) e) where
+  last : (u : Bool) → (u || false) ≡ false → u ≡ false
+  last true f = f
+  last false f = refl
+none_last (k ∷ ns) n m e = both (bytes_eq m k) e (none_last ns n m) where
+  both : (u : Bool) → (u || is_among (ns ++ n ∷ []) m) ≡ false → (is_among (ns ++ n ∷ []) m ≡ false → (is_among ns m ≡ false) × (bytes_eq m n ≡ false)) → ((u || is_among ns m) ≡ false) × (bytes_eq m n ≡ false)
+  both true f rest = let no : ⊥ = cc in absurd no
+  both false f rest = rest f
+
+-- a name that no package bears is that of no block
+none_named : (names : List Text) (bs : List FieldBlock) (o : Text) → is_among (fold with_name names (map (λ (b : FieldBlock). b.package_name) bs)) o ≡ false → (is_among names o ≡ false) × (blocks_of bs o ≡ [])
+none_named names [] o e = (e, refl)
+none_named names (b ∷ bs) o e =
+    let t = none_named (with_name names b.package_name) bs o e in
+    let s = none_of (is_among names b.package_name) (bytes_eq o b.package_name) names b.package_name o refl refl t.0 in
+    (s.0, ap (λ (u : Bool). cond u (b ∷ blocks_of bs o) (blocks_of bs o)) s.1 ∙ t.1)
+  where
+    none_of : (u v : Bool) (ns : List Text) (n m : Text) → is_among ns n ≡ u → bytes_eq m n ≡ v → is_among (cond u ns (ns ++ n ∷ [])) m ≡ false → (is_among ns m ≡ false) × (bytes_eq m n ≡ false)
+    none_of true true ns n m k l h = let same : m ≡ n = (bytes_eq-Decides m n).0 l in let no : is_among ns n ≡ false = subst (λ (x : Text). is_among ns x ≡ false) same h in let bad : ⊥ = cc in absurd bad
+    none_of true false ns n m k l h = (h, l)
+    none_of false v ns n m k l h = none_last ns n m h
+
+-- the first block of a package
+pub first_block : (blocks : List FieldBlock) (i : ℕ) (b : FieldBlock) (r : Registered) (moves : List Moves) → IsRegistered blocks (package_names (take i blocks)) r moves → slice_get blocks i ≡ Some b → is_among r.packages b.package_name ≡ false → IsFirstFrom blocks 0 b.package_name (Some i)
+first_block blocks i b r moves s here new =
+    let t = none_named [] (take i blocks) b.package_name (ap (λ (ns : List Text). is_among ns b.package_name) (sym s.packages) ∙ new) in
+    let p = λ (x : FieldBlock). bytes_eq b.package_name x.package_name in
+    record {
+      rest = ap (filter p) (sym (take-append-drop i blocks)) ∙ filter-append p (take i blocks) (drop i blocks) ∙ ap (λ (l : List FieldBlock). l ++ filter p (drop i blocks)) t.1;
+      place = λ j e. let f : i ≡ j = cc in (b, omega arith, ap (slice_get blocks) (sym f) ∙ here, refl);
+    }
+
+-- the same steps at a block that is there
+pub register_step_at : (blocks : List FieldBlock) (i : ℕ) (b : FieldBlock) (r : Registered) (moves : List Moves) (r' : Registered) (moves' : List Moves) → All (λ (x : FieldBlock). IsMoves x.moves) blocks → IsRegistered blocks (package_names (take i blocks)) r moves → slice_get blocks i ≡ Some b → with_package_once blocks r b.package_name ≡ Ok r' → moves' ≡ moves ++ moves_once blocks r b.package_name → IsRegistered blocks (package_names (take (i + 1) blocks)) r' moves'
+register_step_at blocks i b r moves r' moves' sound s here e m =
+    register_step blocks i b r moves b.package_name r' moves' sound s (slice_get_within blocks i b here) (ap (λ (x : FieldBlock). x.package_name) (get_or_from_slice_get blocks i b b here)) e m
+
+pub register_stop_at : (blocks : List FieldBlock) (i : ℕ) (b : FieldBlock) (r : Registered) (moves : List Moves) (fault : ProblemFault) → IsRegistered blocks (package_names (take i blocks)) r moves → slice_get blocks i ≡ Some b → (fault ≡ NoMemory) ⊎ (with_package_once blocks r b.package_name ≡ Err fault) → (fault ≡ NoMemory) ⊎ (registered blocks ≡ Err fault)
+register_stop_at blocks i b r moves fault s here =
+    register_stop blocks i b r moves b.package_name fault s (slice_get_within blocks i b here) (ap (λ (x : FieldBlock). x.package_name) (get_or_from_slice_get blocks i b b here))

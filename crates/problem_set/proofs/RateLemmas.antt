@@ -1,5 +1,5 @@
 -- Rates and sums.
-use Rattle.std.proofs.Common.{nat_le, nat_eq, ◌⊎◌, inl, inr, ◌≡◌, ◌<◌, ◌≤◌, ◌+◌, ◌*◌, ◌^◌, ◌++◌, ◌∷◌, [], ℕ, zero, suc, Bool, true, false, cond, List, length, slice_get, take, drop, Some, Ok, Err, refl, sym, ap, ◌∙◌, subst, arith, All}
+use Rattle.std.proofs.Common.{nat_le, nat_eq, ◌⊎◌, inl, inr, ◌≡◌, ◌≤◌, ◌+◌, ◌*◌, ◌^◌, ◌++◌, ◌∷◌, [], ℕ, zero, suc, Bool, true, false, cond, List, length, slice_get, take, drop, Some, Ok, Err, refl, sym, ap, ◌∙◌, subst, arith, All}
 use Rattle.std.specs.List.{sum_by, range_with_len, zip}
 use Rattle.std.proofs.Math.Nat.{mul-le-mul, mul-le-mul_left, mul_comm, mul_assoc, mul_right_comm, pow-le-pow_right}
 use Rattle.std.proofs.lemmas.List.{drop_all}
@@ -8,7 +8,7 @@ use Rattle.std.proofs.lemmas.List.Elements.{All-head, All-tail, All-cons, All-ni
 use Rattle.std.proofs.lemmas.Bool.Decides.{nat_tests}
 use Rattle.mesh_num.specs.Rate.{rate}
 use Rattle.package_fields.specs.declared.field.Field.{Field}
-use Rattle.problem_set.specs.declared.entries.Moves.{Moves}
+use Rattle.problem_set.specs.declared.problem_items.Moves.{Moves}
 use Rattle.deck_values.specs.declared.fault.ProblemFault.{ProblemFault}
 use Rattle.deck_values.specs.declared.fault.ProblemFault.TheVariants.{Rates, NoMemory}
 use Rattle.problem_set.specs.Rates.{rate_sum}
@@ -52,7 +52,7 @@ zip_get (z ∷ xs) (w ∷ ys) zero x y a b = let e : z ≡ x = cc in let f : w �
 zip_get (z ∷ xs) (w ∷ ys) (suc i) x y a b = zip_get xs ys i x y a b
 
 -- what is left from a place on
-drop_get : {A : Type 0} (xs : List A) (i : ℕ) (x : A) → slice_get xs i ≡ Some x → drop i xs ≡ x ∷ drop (suc i) xs
+pub drop_get : {A : Type 0} (xs : List A) (i : ℕ) (x : A) → slice_get xs i ≡ Some x → drop i xs ≡ x ∷ drop (suc i) xs
 drop_get [] i x e = cc
 drop_get (z ∷ xs) zero x e = let f : z ≡ x = cc in rw f
 drop_get (z ∷ xs) (suc i) x e = drop_get xs i x e

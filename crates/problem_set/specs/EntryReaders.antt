@@ -7,10 +7,10 @@ use Rattle.package_fields.specs.declared.field.Field.{Field}
 use Rattle.problem_set.specs.declared.words.Method.{Method}
 use Rattle.deck_values.specs.declared.fault.ProblemFault.{ProblemFault}
 use Rattle.deck_values.specs.declared.fault.ProblemFault.TheVariants.{BadValue}
-use Rattle.problem_set.specs.declared.entries.StaticAt.{StaticAt}
-use Rattle.problem_set.specs.declared.entries.StartBox.{StartBox}
-use Rattle.problem_set.specs.declared.entries.Reaction.{Reaction}
-use Rattle.problem_set.specs.declared.entries.Criterion.{Criterion}
+use Rattle.problem_set.specs.declared.problem_items.StaticAt.{StaticAt}
+use Rattle.problem_set.specs.declared.problem_items.StartBox.{StartBox}
+use Rattle.problem_set.specs.declared.problem_items.Reaction.{Reaction}
+use Rattle.problem_set.specs.declared.problem_items.Criterion.{Criterion}
 use Rattle.problem_set.specs.declared.mesh_part.Part.{Part}
 use Rattle.deck_values.specs.Reading.{◌>>=◌, only_if}
 use Rattle.deck_values.specs.BlockReader.{value_at, number}

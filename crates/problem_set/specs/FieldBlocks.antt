@@ -11,7 +11,7 @@ use Rattle.package_fields.specs.declared.fault.FieldFault.TheVariants.{BadFlags}
 use Rattle.package_fields.specs.Flags.{has}
 use Rattle.deck_values.specs.declared.fault.ProblemFault.{ProblemFault}
 use Rattle.deck_values.specs.declared.fault.ProblemFault.TheVariants.{BadValue, Fields}
-use Rattle.problem_set.specs.declared.entries.Moves.{Moves}
+use Rattle.problem_set.specs.declared.problem_items.Moves.{Moves}
 use Rattle.problem_set.specs.declared.field_blocks.FieldBlock.{FieldBlock}
 use Rattle.deck_values.specs.Reading.{◌>>=◌, or_fault}
 use Rattle.deck_values.specs.Numbers.{is_name}

@@ -11,6 +11,7 @@ pub mod SoundEntries
 pub mod EntryReaders
 pub mod FieldBlocks
 pub mod Packages
+pub mod PackageBlocks
 pub mod Fitting
 pub mod RepeatedBlocks
 pub mod Problems

@@ -10,7 +10,7 @@ use Rattle.package_fields.specs.Fields.{Registered, is_among}
 use Rattle.package_fields.specs.Registered.{package_fault, with_package}
 use Rattle.deck_values.specs.declared.fault.ProblemFault.{ProblemFault}
 use Rattle.deck_values.specs.declared.fault.ProblemFault.TheVariants.{Fields}
-use Rattle.problem_set.specs.declared.entries.Moves.{Moves}
+use Rattle.problem_set.specs.declared.problem_items.Moves.{Moves}
 use Rattle.problem_set.specs.declared.field_blocks.FieldBlock.{FieldBlock}
 use Rattle.problem_set.specs.declared.packages.FieldTable.{FieldTable}
 use Rattle.deck_values.specs.Reading.{◌>>=◌, each}

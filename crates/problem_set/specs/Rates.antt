@@ -5,8 +5,8 @@ use Rattle.mesh_num.specs.Rate.{rate}
 use Rattle.package_fields.specs.declared.field.Field.{Field}
 use Rattle.package_fields.specs.declared.flag.Flag.TheVariants.{FillGhost, WithFluxes}
 use Rattle.package_fields.specs.Flags.{has}
-use Rattle.problem_set.specs.declared.entries.Moves.{Moves}
-use Rattle.problem_set.specs.declared.entries.StartBox.{StartBox}
+use Rattle.problem_set.specs.declared.problem_items.Moves.{Moves}
+use Rattle.problem_set.specs.declared.problem_items.StartBox.{StartBox}
 use Rattle.problem_set.specs.declared.words.FaceKind.{FaceKind}
 use Rattle.problem_set.specs.declared.words.FaceKind.TheVariants.{Periodic, Outflow, Reflecting, Inflow}
 

@@ -3,11 +3,11 @@ use Rattle.std.specs.Prelude.{◌≡◌, ◌≢◌, ◌≤◌, ◌<◌, ◌-◌,
 use Rattle.std.specs.List.{slice_index_or, zip}
 use Rattle.package_fields.specs.Fields.{Registered, IsSound}
 use Rattle.package_fields.specs.declared.field.Field.{Field}
-use Rattle.problem_set.specs.declared.entries.Moves.{Moves}
-use Rattle.problem_set.specs.declared.entries.StaticAt.{StaticAt}
-use Rattle.problem_set.specs.declared.entries.StartBox.{StartBox}
-use Rattle.problem_set.specs.declared.entries.Reaction.{Reaction}
-use Rattle.problem_set.specs.declared.entries.Criterion.{Criterion}
+use Rattle.problem_set.specs.declared.problem_items.Moves.{Moves}
+use Rattle.problem_set.specs.declared.problem_items.StaticAt.{StaticAt}
+use Rattle.problem_set.specs.declared.problem_items.StartBox.{StartBox}
+use Rattle.problem_set.specs.declared.problem_items.Reaction.{Reaction}
+use Rattle.problem_set.specs.declared.problem_items.Criterion.{Criterion}
 use Rattle.problem_set.specs.Rates.{rate_sum, bound}
 use Rattle.problem_set.specs.declared.words.FaceKind.{FaceKind}
 

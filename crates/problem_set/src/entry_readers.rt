@@ -6,10 +6,10 @@ ghost use Rattle.problem_set.specs.EntryReaders.{static_at, start_box, reaction,
 ghost use Rattle.problem_set.specs.Sound.{IsSize};
 ghost use Rattle.problem_set.specs.SoundEntries.{IsStatic, IsBox, IsReaction, IsCriterion, greatest_total};
 
-use crate::entries::{Criterion, Reaction, StartBox, StaticAt};
 use crate::mesh_part::{
     Part, read_amount, read_label, read_lower_amount, read_other_label, read_part,
 };
+use crate::problem_items::{Criterion, Reaction, StartBox, StaticAt};
 use crate::words::Method;
 use deck_values::{BlockForm, BlockReader, ProblemFault};
 use package_fields::Registry;

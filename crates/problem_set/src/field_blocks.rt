@@ -7,8 +7,8 @@ ghost use Rattle.problem_set.specs.FieldBlocks.{behind_field, field_name, defaul
 ghost use Rattle.problem_set.specs.FieldBlocks.{speeds, entry_pair, entry_amounts, moves, field_block};
 ghost use Rattle.problem_set.specs.SoundEntries.{IsMoves, IsSlow, greatest_total};
 
-use crate::entries::Moves;
 use crate::mesh_part::GREATEST_TOTAL;
+use crate::problem_items::Moves;
 use deck_values::{BlockReader, ProblemFault, flags_of, ids_of, is_name};
 use package_fields::{FieldFault, Flag, Flags, Items, Name, has_flag};
 use std::alloc::Global;

@@ -6,7 +6,7 @@ ghost use Rattle.problem_set.specs.Rates.{cells_of, face_cells, is_inflow, face_
 ghost use Rattle.problem_set.specs.Sound.{IsSize, IsFaces};
 ghost use Rattle.problem_set.specs.SoundEntries.{IsMoves, IsBox};
 
-use crate::entries::{Moves, StartBox};
+use crate::problem_items::{Moves, StartBox};
 use crate::rates::{field_at, moves_at};
 use crate::words::{FaceKind, Faces};
 use package_fields::{Field, Flag, has_flag};

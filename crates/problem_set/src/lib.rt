@@ -9,7 +9,6 @@
 
 mod block_kinds;
 mod deck_sections;
-mod entries;
 mod entry_readers;
 mod field_blocks;
 mod field_form;
@@ -17,8 +16,10 @@ mod fitting;
 mod grid;
 mod mesh;
 mod mesh_part;
+mod package_blocks;
 mod packages;
 mod problem;
+mod problem_items;
 mod problem_reader;
 mod rates;
 mod repeated_blocks;
@@ -27,8 +28,8 @@ mod words;
 
 pub use deck_generator::generate;
 pub use deck_values::ProblemFault;
-pub use entries::{Criterion, Moves, Reaction, StartBox, StaticAt};
 pub use problem::Problem;
+pub use problem_items::{Criterion, Moves, Reaction, StartBox, StaticAt};
 pub use problem_reader::read_problem;
 pub use rates::Rates;
 pub use words::{FaceKind, Faces, Method, Mode};

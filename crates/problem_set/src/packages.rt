@@ -1,17 +1,20 @@
 //! The packages of a deck, and the registry of their fields.
 
-ghost use Rattle.std.specs.Prelude.{◌≡◌, ◌++◌, [], ◌∷◌, map, length, All, Ok, IfOk, IfErr, OnOk};
+ghost use Rattle.std.specs.Prelude.{ℕ, Option, ◌≡◌, ◌<◌, ◌-◌, ◌++◌, [], ◌∷◌, if◌then◌else◌, false, nat_lt, map, take, length, slice_get, All, None, Some, Ok, IfOk, IfErr, OnOk};
 ghost use Rattle.std.specs.List.{flat_map};
 ghost use Rattle.deck_values.specs.declared.fault.ProblemFault.TheVariants.{NoMemory as no_memory};
 ghost use Rattle.deck_values.specs.Reading.{Answers, Gives};
 ghost use Rattle.problem_set.specs.FieldBlocks.{pool_field, dense_field};
 ghost use Rattle.problem_set.specs.Kept.{kept_fields, kept_flags};
+ghost use Rattle.package_fields.specs.Fields.{is_among};
+ghost use Rattle.problem_set.specs.PackageBlocks.{most_gathered, AreChained, IsFirstFrom};
 ghost use Rattle.problem_set.specs.Packages.{blocks_of, package_of, moves_of, package_moves, with_added, with_package_once, moves_once, registered, fields};
 ghost use Rattle.problem_set.specs.SoundEntries.{IsMoves};
 
-use crate::entries::Moves;
 use crate::field_blocks::FieldBlock;
 use crate::field_form::FieldForm;
+use crate::package_blocks::{block_at, next_blocks};
+use crate::problem_items::Moves;
 use deck_values::{ProblemFault, names_of, read_blocks};
 use input_file::Deck;
 use package_fields::{
@@ -27,6 +30,9 @@ pub struct FieldTable {
     pub moves: Items<Moves>,
 }
 
+/// How many fields of a package are gathered at most: one more than a registry may have.
+const MOST_GATHERED: usize = 257;
+
 /// Fields and how each of them moves.
 #[derive(Drop)]
 struct FieldList {
@@ -34,27 +40,11 @@ struct FieldList {
     moves: Items<Moves>,
 }
 
-/// Adds the fields of a block, where it is of a package.
-fn push_block_if(
-    alloc: Global,
-    list: &mut FieldList,
-    block: &FieldBlock,
-    package_name: &Name,
-) -> Result<(), ProblemFault>
-    ensures fields { OnOk result (list.new.fields ≡ list.old.fields ++ flat_map kept_fields (blocks_of (block.now ∷ []) package_name.now)) }
-    ensures moves { OnOk result (list.new.moves ≡ list.old.moves ++ flat_map moves_of (blocks_of (block.now ∷ []) package_name.now)) }
-    ensures fault { IfErr result (λ fault. fault ≡ no_memory) }
-{
-    if block.package_name.is(package_name.as_str()) {
-        push_block(alloc, list, block)?;
-    }
-    Ok(())
-}
-
-/// Adds the fields of a block.
+/// Adds the fields of a block, as many as there is room for.
 fn push_block(alloc: Global, list: &mut FieldList, block: &FieldBlock) -> Result<(), ProblemFault>
-    ensures fields { OnOk result (list.new.fields ≡ list.old.fields ++ kept_fields block.now) }
-    ensures moves { OnOk result (list.new.moves ≡ list.old.moves ++ moves_of block.now) }
+    requires room { length list.old.fields < most_gathered }
+    ensures fields { OnOk result (list.new.fields ≡ list.old.fields ++ take (most_gathered - length list.old.fields) (kept_fields block.now)) }
+    ensures moves { OnOk result (list.new.moves ≡ list.old.moves ++ take (most_gathered - length list.old.fields) (moves_of block.now)) }
     ensures fault { IfErr result (λ fault. fault ≡ no_memory) }
 {
     let flags = kept_flags(alloc, &block.flags)?;
@@ -80,23 +70,31 @@ fn kept_flags(alloc: Global, flags: &Flags) -> Result<Flags, ProblemFault>
     }
 }
 
-/// Adds the fields of a pool with these flags.
+/// Adds the fields of a pool with these flags, as many as there is room for.
 fn push_pool(
     alloc: Global,
     list: &mut FieldList,
     block: &FieldBlock,
     flags: &Flags,
 ) -> Result<(), ProblemFault>
-    ensures fields { OnOk result (list.new.fields ≡ list.old.fields ++ map (pool_field block.now.name flags.now) block.now.ids) }
-    ensures moves { OnOk result (list.new.moves ≡ list.old.moves ++ map (λ id. block.now.moves) block.now.ids) }
+    requires room { length list.old.fields < most_gathered }
+    ensures fields { OnOk result (list.new.fields ≡ list.old.fields ++ map (pool_field block.now.name flags.now) (take (most_gathered - length list.old.fields) block.now.ids)) }
+    ensures moves { OnOk result (list.new.moves ≡ list.old.moves ++ map (λ id. block.now.moves) (take (most_gathered - length list.old.fields) block.now.ids)) }
     ensures fault { IfErr result (λ fault. fault ≡ no_memory) }
 {
-    let ids = block.ids.as_slice();
+    let ids = first_ids(block.ids.as_slice(), MOST_GATHERED - list.fields.len());
     for id in ids {
         let field = pool_field(alloc, &block.name, flags, *id)?;
         push_field(list, field, block.moves)?;
     }
     Ok(())
+}
+
+/// The first ids of a pool, of which there may be fewer.
+fn first_ids(ids: &[u32], most: usize) -> &[u32]
+    ensures { result.now ≡ take most ids.now }
+{
+    if most < ids.len() { &ids[..most] } else { ids }
 }
 
 /// Adds a field.
@@ -145,44 +143,65 @@ fn dense_field(alloc: Global, name: &Name, flags: &Flags) -> Result<Field, Probl
     })
 }
 
-/// The fields of a package, in deck order.
+/// The place of the next block of a package, where there is room for its fields.
+fn next_place(list: &FieldList, next: &[Option<usize>], i: usize) -> Option<usize>
+    requires { i < length next.now }
+    ensures { (n : Option ℕ) → slice_get next.now i ≡ Some n → result ≡ (if nat_lt (length list.now.fields) most_gathered then n else None) }
+{
+    if list.fields.len() < MOST_GATHERED {
+        next[i]
+    } else {
+        None
+    }
+}
+
+/// The package whose first block stands at a place, and how its fields move. It takes fields until
+/// there is one more than a registry may have.
 fn gather(
     alloc: Global,
     blocks: &[FieldBlock],
+    next: &[Option<usize>],
+    first: usize,
     package_name: &Name,
-) -> Result<FieldList, ProblemFault>
-    ensures fields { IfOk result (λ m. m.fields ≡ flat_map kept_fields (blocks_of blocks.now package_name.now)) }
-    ensures moves { IfOk result (λ m. m.moves ≡ package_moves blocks.now package_name.now) }
+) -> Result<(Package, Items<Moves>), ProblemFault>
+    requires chained { AreChained blocks.now next.now }
+    requires first { IsFirstFrom blocks.now 0 package_name.now (Some first) }
+    ensures name { IfOk result (λ m. m.0.name ≡ package_name.now) }
+    ensures fields { IfOk result (λ m. m.0.fields ≡ take most_gathered (flat_map kept_fields (blocks_of blocks.now package_name.now))) }
+    ensures moves { IfOk result (λ m. m.1 ≡ take most_gathered (package_moves blocks.now package_name.now)) }
     ensures fault { IfErr result (λ fault. fault ≡ no_memory) }
 {
     let mut list = FieldList {
         fields: Items::new(alloc),
         moves: Items::new(alloc),
     };
-    for block in blocks {
-        push_block_if(alloc, &mut list, block, package_name)?;
+    let mut place = Some(first);
+    while let Some(i) = place {
+        push_block(alloc, &mut list, block_at(blocks, i))?;
+        place = next_place(&list, next, i);
     }
-    Ok(list)
+    let FieldList { fields, moves } = list;
+    let name = Name::copy_of(alloc, package_name.as_str())?;
+    Ok((Package { name, fields }, moves))
 }
 
-/// Adds the package of an package_name.
+/// Adds the package whose first block stands at a place.
 fn register_package(
     alloc: Global,
     registry: &mut Registry,
     moves: &mut Items<Moves>,
     blocks: &[FieldBlock],
+    next: &[Option<usize>],
+    first: usize,
     package_name: &Name,
 ) -> Result<(), ProblemFault>
+    requires chained { AreChained blocks.now next.now }
+    requires first { IsFirstFrom blocks.now 0 package_name.now (Some first) }
     ensures registry { Answers (λ _. registry.new) result (with_added registry.old (package_of blocks.now package_name.now)) }
     ensures moves { OnOk result (moves.new ≡ moves.old ++ package_moves blocks.now package_name.now) }
 {
-    let list = gather(alloc, blocks, package_name)?;
-    let name = Name::copy_of(alloc, package_name.as_str())?;
-    let FieldList {
-        fields,
-        moves: more,
-    } = list;
-    add_package(registry, Package { name, fields })?;
+    let (package, more) = gather(alloc, blocks, next, first, package_name)?;
+    add_package(registry, package)?;
     moves.append(more)?;
     Ok(())
 }
@@ -198,21 +217,25 @@ fn add_package(registry: &mut Registry, declared: Package) -> Result<(), Problem
     }
 }
 
-/// Adds the package of an package_name, unless it is there.
+/// Adds the package of a block, unless it is there: then the block is its first.
 fn register_once(
     alloc: Global,
     registry: &mut Registry,
     moves: &mut Items<Moves>,
     blocks: &[FieldBlock],
+    next: &[Option<usize>],
+    i: usize,
     package_name: &Name,
 ) -> Result<(), ProblemFault>
+    requires chained { AreChained blocks.now next.now }
+    requires first { is_among registry.old.packages package_name.now ≡ false → IsFirstFrom blocks.now 0 package_name.now (Some i) }
     ensures registry { Answers (λ _. registry.new) result (with_package_once blocks.now registry.old package_name.now) }
     ensures moves { OnOk result (moves.new ≡ moves.old ++ moves_once blocks.now registry.old package_name.now) }
 {
     if registry.has_package(package_name.as_str()) {
         Ok(())
     } else {
-        register_package(alloc, registry, moves, blocks, package_name)
+        register_package(alloc, registry, moves, blocks, next, i, package_name)
     }
 }
 
@@ -223,10 +246,27 @@ fn register_all(alloc: Global, blocks: &[FieldBlock]) -> Result<FieldTable, Prob
     ensures as_many { IfOk result (λ f. length f.moves ≡ length f.fields.fields) }
     ensures sound { IfOk result (λ f. All IsMoves f.moves) }
 {
+    let next = next_blocks(alloc, blocks)?;
+    register_chained(alloc, blocks, next.as_slice())
+}
+
+/// The same, where it is known which blocks follow one another in a package.
+fn register_chained(
+    alloc: Global,
+    blocks: &[FieldBlock],
+    next: &[Option<usize>],
+) -> Result<FieldTable, ProblemFault>
+    requires moves { All (λ b. IsMoves b.moves) blocks.now }
+    requires chained { AreChained blocks.now next.now }
+    ensures value { Gives result (registered blocks.now) }
+    ensures as_many { IfOk result (λ f. length f.moves ≡ length f.fields.fields) }
+    ensures sound { IfOk result (λ f. All IsMoves f.moves) }
+{
     let mut fields = Registry::new(alloc);
     let mut moves = Items::new(alloc);
-    for block in blocks {
-        register_once(alloc, &mut fields, &mut moves, blocks, &block.package_name)?;
+    for i in 0..blocks.len() {
+        let name = &block_at(blocks, i).package_name;
+        register_once(alloc, &mut fields, &mut moves, blocks, next, i, name)?;
     }
     Ok(FieldTable { fields, moves })
 }

@@ -3,7 +3,7 @@ ghost use Rattle.std.proofs.Props.{props};
 ghost use Rattle.problem_set.specs.Sound.{IsSize, IsRefining, IsFaces, IsGrid, IsStepping};
 ghost use Rattle.problem_set.specs.SoundEntries.{AreFields, AreEntries, HaveFittingRates, HasBound};
 
-use crate::entries::{Criterion, Moves, Reaction, StartBox, StaticAt};
+use crate::problem_items::{Criterion, Moves, Reaction, StartBox, StaticAt};
 use crate::rates::Rates;
 use crate::words::{Faces, Mode};
 use morton_order::Shape;

@@ -9,7 +9,7 @@ ghost use Rattle.problem_set.specs.Rates.{upwards, downwards, velocity, right_ra
 ghost use Rattle.problem_set.specs.Fitting.{sum_fits, rates_fit};
 ghost use Rattle.problem_set.specs.SoundEntries.{IsMoves};
 
-use crate::entries::Moves;
+use crate::problem_items::Moves;
 use deck_values::ProblemFault;
 use mesh_num::rate;
 use package_fields::{Field, Flag, Name, has_flag};

@@ -7,9 +7,9 @@ ghost use Rattle.problem_set.specs.Sound.{IsSize};
 ghost use Rattle.problem_set.specs.SoundEntries.{IsMoves, AreEntries};
 
 use crate::block_kinds::{BlockNames, find_blocks};
-use crate::entries::{Criterion, Reaction, StartBox, StaticAt};
 use crate::entry_readers::{BoxForm, CriterionForm, ReactionForm, StaticForm};
 use crate::packages::{FieldTable, read_fields};
+use crate::problem_items::{Criterion, Reaction, StartBox, StaticAt};
 use crate::words::Mode;
 use deck_values::{ProblemFault, read_blocks};
 use input_file::Deck;

@@ -7,7 +7,7 @@ use Rattle.std.proofs.lemmas.List.Elements.{All-get_or}
 use Rattle.morton_order.specs.declared.space.Loc.{Loc}
 use Rattle.morton_order.specs.Space.{IsIn}
 use Rattle.package_fields.specs.Kernel.{KernelLaws, Reacted}
-use Rattle.problem_set.specs.declared.entries.StartBox.{StartBox}
+use Rattle.problem_set.specs.declared.problem_items.StartBox.{StartBox}
 use Rattle.problem_set.specs.declared.problem.Problem.{Problem}
 use Rattle.problem_set.specs.SettingsOf.{settings_of}
 use Rattle.problem_set.specs.Rates.{box_total}

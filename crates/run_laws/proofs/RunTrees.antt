@@ -14,8 +14,8 @@ use Rattle.morton_order.specs.Space.{is_inside, same_loc}
 use Rattle.package_fields.specs.Kernel.{Reacted}
 use Rattle.problem_set.specs.Settings.{Settings}
 use Rattle.problem_set.specs.declared.problem.Problem.{Problem}
-use Rattle.problem_set.specs.declared.entries.Criterion.{Criterion}
-use Rattle.problem_set.specs.declared.entries.StaticAt.{StaticAt}
+use Rattle.problem_set.specs.declared.problem_items.Criterion.{Criterion}
+use Rattle.problem_set.specs.declared.problem_items.StaticAt.{StaticAt}
 use Rattle.problem_set.specs.SettingsOf.{settings_of}
 use Rattle.problem_set.specs.SoundEntries.{IsCriterion, IsStatic}
 use Rattle.block_tree.specs.declared.boxes.StaticBox.{StaticBox}

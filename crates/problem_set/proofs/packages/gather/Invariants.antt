@@ -1,11 +1,8 @@
-use Rattle.std.proofs.Common.{◌≡◌, take}
-use Rattle.std.specs.List.{flat_map}
-use Rattle.problem_set.specs.Kept.{kept_fields}
-use Rattle.problem_set.specs.Packages.{blocks_of, moves_of}
+use Rattle.problem_set.proofs.GatherLemmas.{IsGathered, blocks_left}
 use Rattle.problem_set.proofs.packages.gather.Given as goal
 
-abbrev pub invariant-loop-block : goal.invariant-loop-block
-invariant-loop-block l = record {
-  fields : l.list.fields ≡ flat_map kept_fields (blocks_of (take l.block-index l.blocks) l.package_name);
-  moves : l.list.moves ≡ flat_map moves_of (blocks_of (take l.block-index l.blocks) l.package_name);
-}
+abbrev pub invariant-loop-place : goal.invariant-loop-place
+invariant-loop-place l = IsGathered l.blocks l.package_name l.list.fields l.list.moves l.place
+
+abbrev pub decreases-loop-place : goal.decreases-loop-place
+decreases-loop-place l = blocks_left l.blocks l.place

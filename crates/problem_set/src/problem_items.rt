@@ -1,4 +1,4 @@
-//! What the blocks of a deck that come in any number say, one block at a time.
+//! The items that a problem lists: how each field moves, static boxes, opening boxes, reactions and criteria.
 
 use crate::words::Method;
 
