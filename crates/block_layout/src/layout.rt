@@ -56,7 +56,8 @@ impl Layout {
         self.width(0) * self.width(1) * self.width(2)
     }
 
-    /// Where the cell of an index lies in the list of a block. The index counts from the first ghost, along x1, x2 and x3.
+    /// Where the cell of an index lies in the list of a block. The index counts from the first ghost, along x1, x2 and
+    /// x3.
     pub fn at(&self, i: [u32; 3]) -> usize
         requires { IsWithin (widths self.now) i }
         ensures value { result ≡ place self.now i }
@@ -73,8 +74,8 @@ impl Layout {
         self.cells[0] as usize * self.cells[1] as usize * self.cells[2] as usize
     }
 
-    /// The faces along an axis in the box of the faces that are normal to another one: as many as cells, and one more along the
-    /// axis itself.
+    /// The faces along an axis in the box of the faces that are normal to another one: as many as cells, and one more
+    /// along the axis itself.
     fn face_extent(&self, axis: u32, along: u32) -> usize
         requires axis { axis < 3 }
         requires along { along < 3 }
@@ -119,8 +120,8 @@ impl Layout {
         self.faces_along(0) + self.faces_along(1) + self.faces_along(2)
     }
 
-    /// The number of the face below a cell along an axis. The index counts interior cells from 0; one past the last cell along the
-    /// axis it names the faces at the high side.
+    /// The number of the face below a cell along an axis. The index counts interior cells from 0; one past the last
+    /// cell along the axis it names the faces at the high side.
     pub fn face_at(&self, axis: u32, i: [u32; 3]) -> usize
         requires axis { axis < self.now.dims }
         requires within { IsWithin (face_extents self.now axis) i }

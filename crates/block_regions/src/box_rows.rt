@@ -31,8 +31,11 @@ pub fn write_box_rows<R: BoxRows>(
 )
     requires cells { HasCells extents }
     requires into { IsBoxIn extents into_box (length into.old) }
-    requires asks { (row plane : ℕ) → row < slice_index extents 1 → plane < slice_index extents 2 → R.asks op.now from.now (slice_index extents 0) row plane }
-    ensures inside { (i : List ℕ) → IsWithin extents i → slice_index into.new (address into_box i) ≡ R.gives op.now from.now (slice_index i 0) (slice_index i 1) (slice_index i 2) }
+    requires asks { (row plane : ℕ) → row < slice_index extents 1 → plane < slice_index extents 2
+        → R.asks op.now from.now (slice_index extents 0) row plane }
+    ensures inside { (i : List ℕ) → IsWithin extents i
+        → slice_index into.new (address into_box i)
+        ≡ R.gives op.now from.now (slice_index i 0) (slice_index i 1) (slice_index i 2) }
     ensures outside { StaysOffBox extents into_box into.old into.new }
 {
     for plane in 0..extents[2] {

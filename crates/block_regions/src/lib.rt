@@ -1,8 +1,9 @@
 //! Regions of a block, and boxes that are written row by row.
 //!
-//! [`BlockRegion`] is a box of the cells of a block with its ghosts, as the code needs it: the interior layers next to a side, the
-//! ghosts beyond it, and the part of either beside which a block of half the size lies. [`write_box_rows`] writes a box by what a
-//! [`BoxRows`] says of each of its rows; [`EvenRows`] is the one that writes one number everywhere.
+//! [`BlockRegion`] is a box of the cells of a block with its ghosts, as the code needs it: the interior layers next to
+//! a side, the ghosts beyond it, and the part of either beside which a block of half the size lies. [`write_box_rows`]
+//! writes a box by what a [`BoxRows`] says of each of its rows; [`EvenRows`] is the one that writes one number
+//! everywhere.
 #![tactic(auto)]
 
 mod box_rows;

@@ -46,8 +46,8 @@ fn span_along(dims: u32, axis: u32, half: u32, other: u32, extent: usize) -> (us
     }
 }
 
-/// The cells of a region beside a part of a side: all along the side's axis, and half of them along another in use. The bits of
-/// the part's number are the halves along the other axes, the lower axis first.
+/// The cells of a region beside a part of a side: all along the side's axis, and half of them along another in use.
+/// The bits of the part's number are the halves along the other axes, the lower axis first.
 pub fn beside_part(layout: &Layout, axis: u32, half: u32, region: &BlockRegion) -> BlockRegion
     requires axis { axis < layout.now.dims }
     requires half { half < 4 }

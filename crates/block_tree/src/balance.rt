@@ -60,7 +60,8 @@ pub(crate) fn balance(
 ) -> Result<bool, AllocError>
     requires shape { IsShape shape.now }
     requires roomy { AreRoomy shape.now nodes.old }
-    ensures whole { IfOk result (λ whole. MatchBool whole (IsLeast shape.now (is_listed nodes.old) (is_listed nodes.new)) (most < length nodes.new)) }
+    ensures whole { IfOk result (λ whole. MatchBool whole
+        (IsLeast shape.now (is_listed nodes.old) (is_listed nodes.new)) (most < length nodes.new)) }
     ensures forced { IfOk result (λ _. AreForced shape.now (is_listed nodes.old) nodes.new) }
     ensures distinct { IfOk result (λ _. IsDistinct same_loc nodes.new) }
     ensures small { IfOk result (λ _. length nodes.new < 2 ^ 63) }

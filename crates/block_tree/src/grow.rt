@@ -42,7 +42,9 @@ pub(crate) fn push_roots(
     requires x { (x + 1) * 2 ^ k ≤ 65536 }
     requires y { (y + 1) * 2 ^ k ≤ 65536 }
     requires z { (z + 1) * 2 ^ k ≤ 65536 }
-    ensures whole { IfOk result (λ whole. MatchBool whole (roots.new.items ≡ roots.old.items ++ roots_in_of k shape.now x y z) (MOST_LEAVES < length (roots.old.items ++ roots_in_of k shape.now x y z))) }
+    ensures whole { IfOk result (λ whole. MatchBool whole
+        (roots.new.items ≡ roots.old.items ++ roots_in_of k shape.now x y z)
+        (MOST_LEAVES < length (roots.old.items ++ roots_in_of k shape.now x y z))) }
 {
     if !begins_inside(shape, k, x, y, z) {
         return Ok(true);
@@ -98,8 +100,10 @@ pub(crate) fn push_below(
     requires most { dims ≤ 3 }
     requires valid { IsLoc dims at.now }
     requires level { at.now.level + k ≡ 10 }
-    ensures inner { IfOk result (λ _. inner.new.items ≡ inner.old.items ++ inner_below_of k dims (is_listed nodes.now) at.now) }
-    ensures leaves { IfOk result (λ _. leaves.new.items ≡ leaves.old.items ++ leaves_below_of k dims (is_listed nodes.now) at.now) }
+    ensures inner { IfOk result (λ _. inner.new.items
+        ≡ inner.old.items ++ inner_below_of k dims (is_listed nodes.now) at.now) }
+    ensures leaves { IfOk result (λ _. leaves.new.items
+        ≡ leaves.old.items ++ leaves_below_of k dims (is_listed nodes.now) at.now) }
 {
     if k == 0 || !nodes.contains(at) {
         leaves.push(*at)?;
@@ -154,7 +158,8 @@ pub(crate) fn most_inner(roots: usize, dims: u32) -> usize
 
 /// The root blocks in the order of their keys, none where they are more than a tree has leaves.
 pub(crate) fn few_roots(alloc: Global, shape: &Shape) -> Result<Option<Vec<Loc>>, AllocError>
-    ensures some { IfOk result (λ found. IfSome found (λ list. (list.items ≡ roots_of shape.now) × (length list.items ≤ 65536))) }
+    ensures some { IfOk result (λ found. IfSome found
+        (λ list. (list.items ≡ roots_of shape.now) × (length list.items ≤ 65536))) }
     ensures none { IfOk result (λ found. IfNone found (65536 < length (roots_of shape.now))) }
 {
     let mut list = Vec::new(alloc);

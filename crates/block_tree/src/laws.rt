@@ -7,8 +7,8 @@ ghost use Rattle.block_tree.specs.Least.{LeastIsLeast, OpeningIsLeast};
 ghost use Rattle.block_tree.specs.Next.{NextIsLeast, NextIsNear};
 ghost use Rattle.block_tree.specs.Worked.{WorkedTrees};
 
-/// The nodes that are found level by level are the least balanced tree that holds what is wanted; so is the opening tree
-/// for what static boxes want.
+/// The nodes that are found level by level are the least balanced tree that holds what is wanted; so is the opening
+/// tree for what static boxes want.
 pub fn least_tree_law()
     ensures least { LeastIsLeast }
     ensures opening { OpeningIsLeast }
@@ -20,7 +20,8 @@ pub fn behind_laws()
     ensures mutual { BehindIsMutual }
 {}
 
-/// Each leaf of the least tree that follows a balanced one differs by at most one level from each old leaf that it meets.
+/// Each leaf of the least tree that follows a balanced one differs by at most one level from each old leaf that it
+/// meets.
 pub fn change_law()
     ensures { ChangesByOneLevel }
 {}

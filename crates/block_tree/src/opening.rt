@@ -84,7 +84,9 @@ fn push_wanted(
     requires cells { All (λ n. (1 ≤ n) × (n ≤ 64)) cells.now }
     requires valid { IsIn shape.now at.now }
     requires level { at.now.level + k ≡ 10 }
-    ensures whole { IfOk result (λ whole. MatchBool whole (nodes.new ≡ with_nodes nodes.old (inner_below k shape.now.dims (wanted_by shape.now cells.now boxes.now) at.now)) (most < length nodes.new)) }
+    ensures whole { IfOk result (λ whole. MatchBool whole
+        (nodes.new ≡ with_nodes nodes.old (inner_below k shape.now.dims
+        (wanted_by shape.now cells.now boxes.now) at.now)) (most < length nodes.new)) }
     ensures only { IfOk result (λ _. AddsOnly (wanted_by shape.now cells.now boxes.now) nodes.old nodes.new) }
 {
     if k == 0 || !is_wanted(shape, cells, boxes, at) {
@@ -118,7 +120,9 @@ pub(crate) fn push_all_wanted(
     requires cells { All (λ n. (1 ≤ n) × (n ≤ 64)) cells.now }
     requires roots { roots.now ≡ roots_of shape.now }
     requires empty { nodes.old ≡ [] }
-    ensures whole { IfOk result (λ whole. MatchBool whole (nodes.new ≡ with_nodes [] (inner_of shape.now (wanted_by shape.now cells.now boxes.now))) (most < length nodes.new)) }
+    ensures whole { IfOk result (λ whole. MatchBool whole
+        (nodes.new ≡ with_nodes [] (inner_of shape.now (wanted_by shape.now cells.now boxes.now)))
+        (most < length nodes.new)) }
     ensures only { IfOk result (λ _. AddsOnly (wanted_by shape.now cells.now boxes.now) [] nodes.new) }
 {
     for i in 0..roots.len() {
@@ -142,8 +146,10 @@ pub(crate) fn opening_nodes(
     requires levels { All (λ (b : StaticBox). b.level ≤ 10) boxes.now }
     requires roots { roots.now ≡ roots_of shape.now }
     requires few { length roots.now ≤ 65536 }
-    ensures some { IfOk result (λ found. IfSome found (λ nodes. is_listed nodes ≡ opening 9 shape.now cells.now boxes.now)) }
-    ensures none { IfOk result (λ found. IfNone found (65536 < length (leaves_of shape.now (opening 9 shape.now cells.now boxes.now)))) }
+    ensures some { IfOk result (λ found. IfSome found
+        (λ nodes. is_listed nodes ≡ opening 9 shape.now cells.now boxes.now)) }
+    ensures none { IfOk result (λ found. IfNone found
+        (65536 < length (leaves_of shape.now (opening 9 shape.now cells.now boxes.now)))) }
 {
     let most = most_inner(roots.len(), shape.dims);
     let mut nodes = Nodes::with_capacity(alloc, 0)?;

@@ -90,8 +90,8 @@ impl Tree {
         Tree::with_roots(alloc, shape, roots.as_slice(), nodes)
     }
 
-    /// The least balanced tree in which each node that meets a box of a greater level is inner. A block has `cells` cells
-    /// along x1, x2 and x3.
+    /// The least balanced tree in which each node that meets a box of a greater level is inner. A block has `cells`
+    /// cells along x1, x2 and x3.
     ///
     /// TooManyAtStart comes where that tree has more than 65,536 leaves; TooManyBlocks never comes.
     pub fn from_static(
@@ -255,7 +255,9 @@ impl Tree {
     pub fn behind(&self, leaf: u32, side: Side) -> Behind
         requires leaf { leaf < length (leaves self.now) }
         requires axis { side.axis < self.now.shape.dims }
-        ensures { (l : Loc) → slice_get (leaves self.now) leaf ≡ Some l → numbered (leaves self.now) (behind_of self.now.shape (is_inner_of self.now) l side.axis side.high) ≡ Some result }
+        ensures { (l : Loc) → slice_get (leaves self.now) leaf ≡ Some l
+            → numbered (leaves self.now) (behind_of self.now.shape (is_inner_of self.now) l side.axis side.high)
+            ≡ Some result }
     {
         self.table[leaf as usize].at(side).answer(self.shape.dims)
     }
@@ -264,7 +266,8 @@ impl Tree {
 /// A tree that is refused for its leaves is refused as an opening tree.
 fn at_start(made: Result<Tree, TreeFault>) -> Result<Tree, TreeFault>
     ensures same { (v : TreeOfBlocks) → IfOk made (λ tree. tree ≡ v) → IfOk result (λ tree. tree ≡ v) }
-    ensures fault { (s : Shape) (inner : Loc → Bool) → IfErr made (RefusedByCount s inner) → IfErr result (RefusedAtStart s inner) }
+    ensures fault { (s : Shape) (inner : Loc → Bool) → IfErr made (RefusedByCount s inner)
+        → IfErr result (RefusedAtStart s inner) }
 {
     match made {
         Ok(tree) => Ok(tree),

@@ -23,8 +23,9 @@ fn planes_in(extents: [usize; 3], b: BoxIn, len: usize) -> Planes
     }
 }
 
-/// Updates a box of these extents by what a rule gives of each of its numbers and of those at the same index of four boxes:
-/// the first and the second box of the list `one`, the third and the fourth of the list `other`. All else stays as it is.
+/// Updates a box of these extents by what a rule gives of each of its numbers and of those at the same index of four
+/// boxes: the first and the second box of the list `one`, the third and the fourth of the list `other`. All else stays
+/// as it is.
 pub fn update_box<R: RowRule>(
     op: &R,
     extents: [usize; 3],
@@ -43,8 +44,11 @@ pub fn update_box<R: RowRule>(
     requires seconds { IsBoxIn extents second (length one.now) }
     requires thirds { IsBoxIn extents third (length other.now) }
     requires fourths { IsBoxIn extents fourth (length other.now) }
-    requires taken { TakesBox (R.takes op.now) extents into.old at (record { one = one.now; first = first; second = second; other = other.now; third = third; fourth = fourth }) }
-    ensures inside { IsUpdated (R.gives op.now) extents into.old at (record { one = one.now; first = first; second = second; other = other.now; third = third; fourth = fourth }) into.new }
+    requires taken { TakesBox (R.takes op.now) extents into.old at
+        (record { one = one.now; first = first; second = second; other = other.now; third = third; fourth = fourth }) }
+    ensures inside { IsUpdated (R.gives op.now) extents into.old at
+        (record { one = one.now; first = first; second = second; other = other.now; third = third; fourth = fourth })
+        into.new }
     ensures outside { StaysOffBox extents at into.old into.new }
 {
     let planes = planes_in(extents, at, into.len());

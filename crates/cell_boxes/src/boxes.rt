@@ -6,8 +6,8 @@ ghost use Rattle.cell_boxes.specs.Planes.{planes_of};
 
 use strided_rows::{Planes, RowMap, write_planes};
 
-/// Where a box of numbers lies in a list: from `first` on the list has a box of `widths`, x1 fastest, and in that the box
-/// begins at the index `low`.
+/// Where a box of numbers lies in a list: from `first` on the list has a box of `widths`, x1 fastest, and in that the
+/// box begins at the index `low`.
 #[derive(Clone, Copy, Debug)]
 pub struct BoxIn {
     pub first: usize,

@@ -3,8 +3,8 @@
 ghost use Rattle.correction_laws.specs.Passed.{PassedAreSides};
 ghost use Rattle.correction_laws.specs.Replaced.{ReplacedAreCorrected, ReplacedGainPairs};
 
-/// Where the flux part of a finer leaf is put in the lists of a coarser one, the faces that the finer leaf covers have the sums of
-/// what its lists have behind them, and all other faces have what they had.
+/// Where the flux part of a finer leaf is put in the lists of a coarser one, the faces that the finer leaf covers have
+/// the sums of what its lists have behind them, and all other faces have what they had.
 pub fn replaced_law()
     ensures { ReplacedAreCorrected }
 {}

@@ -1,10 +1,10 @@
 //! The order of a cycle's events, where it needs no mesh: lists of tasks that send each other letters in rounds.
 //!
-//! A list has three tasks for each round, in this order: it sends the letters that it owes, it reads those that are due to
-//! it, and it computes. A tail of tasks follows, behind one barrier: no list begins it before all lists have done all
-//! rounds. A worker (a seat) takes the next task of a list, works, and gives it back; letters lie on the wire until one is
-//! delivered, at any time after it was sent, also while its reader works. So a cycle is a list of three kinds of events,
-//! to take, to give and to deliver, and very many lists of events are legal.
+//! A list has three tasks for each round, in this order: it sends the letters that it owes, it reads those that are
+//! due to it, and it computes. A tail of tasks follows, behind one barrier: no list begins it before all lists have
+//! done all rounds. A worker (a seat) takes the next task of a list, works, and gives it back; letters lie on the wire
+//! until one is delivered, at any time after it was sent, also while its reader works. So a cycle is a list of three
+//! kinds of events, to take, to give and to deliver, and very many lists of events are legal.
 //!
 //! The laws hold for every legal list, over any number of lists, rounds, letters and tasks in the tail, and say nothing
 //! of what lists and letters hold, which is a machine's matter (`Machine` of `specs/Events.antt`). Each stands on a
@@ -19,8 +19,9 @@
 //! | [`never_stuck_law`] | where not all is done, a task may be taken, one is out, or a letter is on the wire |
 //! | [`readiness_law`] | counts that single events keep up mark exactly the lists whose next task may be taken |
 //!
-//! What a machine's lists and letters hold is carried through every legal list by `proofs/Carried.antt`: a machine shows
-//! nine facts about single steps (`Carries`), and `replay_carried` gives that they hold in every state that is reached.
+//! What a machine's lists and letters hold is carried through every legal list by `proofs/Carried.antt`: a machine
+//! shows nine facts about single steps (`Carries`), and `replay_carried` gives that they hold in every state that is
+//! reached.
 #![tactic(auto)]
 
 mod laws;

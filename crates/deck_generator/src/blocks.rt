@@ -51,7 +51,8 @@ fn add_mesh_settings(alloc: Global, deck: &mut Deck, form: &Form) -> Result<(), 
 }
 
 fn add_meshblock(alloc: Global, deck: &mut Deck, form: &Form) -> Result<(), NoMemory>
-    ensures { OnOk result (deck.new ≡ with_settings deck.old (codes "parthenon/meshblock") (meshblock_settings form.now)) }
+    ensures { OnOk result (deck.new ≡ with_settings deck.old (codes "parthenon/meshblock")
+        (meshblock_settings form.now)) }
 {
     let settings = [
         ("nx1", Value::Number(form.block_cells)),

@@ -52,7 +52,8 @@ fn cut_blocks(slots: &[Slot], blocks: &mut Vec<Cells>) -> u128
     requires leaves { length slots.now ≡ length blocks.old.items }
     requires small { (leaf : ℕ) → sum (slice_index_or blocks.old.items leaf []) < 2 ^ 64 }
     ensures blocks { AreCut (λ leaf. (slot_on slots.now leaf).kept) blocks.old.items blocks.new.items }
-    ensures dropped { result ≡ dropped_to (λ leaf. (slot_on slots.now leaf).kept) blocks.old.items (length blocks.old.items) }
+    ensures dropped { result ≡ dropped_to (λ leaf. (slot_on slots.now leaf).kept) blocks.old.items
+        (length blocks.old.items) }
 {
     let mut dropped = 0;
     for leaf in 0..slots.len() {
@@ -73,7 +74,8 @@ fn cut_field(
     requires leaves { length slots.now ≡ length list.old }
     requires small { (leaf : ℕ) → sum (slice_index_or list.old leaf []) < 2 ^ 64 }
     ensures list { AreCut (stays_on (settings_of problem.now) field slots.now) list.old list.new }
-    ensures dropped { result ≡ dropped_to (stays_on (settings_of problem.now) field slots.now) list.old (length list.old) }
+    ensures dropped { result ≡ dropped_to (stays_on (settings_of problem.now) field slots.now) list.old
+        (length list.old) }
 {
     if !is_sparse(problem, field) {
         return 0;
@@ -84,8 +86,8 @@ fn cut_field(
     dropped
 }
 
-/// Makes zero what does not stay of a mesh: a sparse field on each leaf where its slot says that it is not kept. Memory is asked
-/// for before anything is changed.
+/// Makes zero what does not stay of a mesh: a sparse field on each leaf where its slot says that it is not kept.
+/// Memory is asked for before anything is changed.
 pub fn cut(
     alloc: Global,
     problem: &Problem,
@@ -96,8 +98,13 @@ pub fn cut(
 ) -> Result<CutMesh, NoMemory>
     requires mesh { IsMeshIn (settings_of problem.now) tree.now layout.now lists.items }
     requires slots { AreSlots (field_count (settings_of problem.now)) (length (leaves tree.now)) slots.now }
-    ensures lists { let p = settings_of problem.now in let m = mesh_of tree.now problem.now.cells lists.items in let mask = mask_of (length (leaves tree.now)) slots.now in IfOk result (λ r. r.lists.items ≡ field_lists m (field_count p) (λ f c. cond (stays p m mask f (block_of m c)) (stored m f c) 0)) }
-    ensures dropped { let p = settings_of problem.now in let m = mesh_of tree.now problem.now.cells lists.items in let mask = mask_of (length (leaves tree.now)) slots.now in IfOk result (λ r. r.dropped.items ≡ table (field_count p) (dropped_of p mask m)) }
+    ensures lists { let p = settings_of problem.now in let m = mesh_of tree.now problem.now.cells lists.items in
+        let mask = mask_of (length (leaves tree.now)) slots.now in
+        IfOk result (λ r. r.lists.items ≡ field_lists m (field_count p)
+        (λ f c. cond (stays p m mask f (block_of m c)) (stored m f c) 0)) }
+    ensures dropped { let p = settings_of problem.now in let m = mesh_of tree.now problem.now.cells lists.items in
+        let mask = mask_of (length (leaves tree.now)) slots.now in
+        IfOk result (λ r. r.dropped.items ≡ table (field_count p) (dropped_of p mask m)) }
 {
     let mut dropped = vec![in alloc; 0u128; lists.len()]?;
     let mut lists = lists;

@@ -74,7 +74,8 @@ fn check_slot(slot: Slot, cells: &[u64], threshold: u64, limit: u32) -> Slot
 /// A field's slots after an exchange, of which is said for each leaf whether it calls for the field there.
 fn keep_called_slots(alloc: Global, calls: &[bool], slots: &[Slot]) -> Result<FieldSlots, NoMemory>
     requires { length calls.now ≡ length slots.now }
-    ensures { IfOk result (λ new. AreSlotsBy (length slots.now) (λ leaf. called (slot_of (slot_on slots.now leaf)) (slice_index_or calls.now leaf false)) new) }
+    ensures { IfOk result (λ new. AreSlotsBy (length slots.now)
+        (λ leaf. called (slot_of (slot_on slots.now leaf)) (slice_index_or calls.now leaf false)) new) }
 {
     let mut new = Vec::with_capacity(alloc, slots.len())?;
     for leaf in 0..slots.len() {
@@ -91,7 +92,9 @@ fn keep_above_slots(
     slots: &[Slot],
 ) -> Result<FieldSlots, NoMemory>
     requires { length list.now ≡ length slots.now }
-    ensures { IfOk result (λ new. AreSlotsBy (length slots.now) (λ leaf. called (slot_of (slot_on slots.now leaf)) (not (idle (slice_index_or list.now leaf []) threshold))) new) }
+    ensures { IfOk result (λ new. AreSlotsBy (length slots.now)
+        (λ leaf. called (slot_of (slot_on slots.now leaf)) (not (idle (slice_index_or list.now leaf []) threshold)))
+        new) }
 {
     let mut new = Vec::with_capacity(alloc, slots.len())?;
     for leaf in 0..slots.len() {
@@ -110,7 +113,9 @@ fn check_slots(
 ) -> Result<FieldSlots, NoMemory>
     requires leaves { length list.now ≡ length slots.now }
     requires idle { (leaf : ℕ) → leaf < length slots.now → (slot_on slots.now leaf).idle < limit }
-    ensures { IfOk result (λ new. AreSlotsBy (length slots.now) (λ leaf. checked_by limit (idle (slice_index_or list.now leaf []) threshold) (slot_of (slot_on slots.now leaf))) new) }
+    ensures { IfOk result (λ new. AreSlotsBy (length slots.now)
+        (λ leaf. checked_by limit (idle (slice_index_or list.now leaf []) threshold)
+        (slot_of (slot_on slots.now leaf))) new) }
 {
     let mut new = Vec::with_capacity(alloc, slots.len())?;
     for leaf in 0..slots.len() {
@@ -130,7 +135,10 @@ fn check_field(
     requires field { field < field_count (settings_of problem.now) }
     requires leaves { length list.now ≡ length slots.now }
     requires idle { (leaf : ℕ) → leaf < length slots.now → (slot_on slots.now leaf).idle < problem.now.dealloc_count }
-    ensures { IfOk result (λ new. AreSlotsBy (length slots.now) (λ leaf. checked_slot (settings_of problem.now) field (idle (slice_index_or list.now leaf []) problem.now.dealloc_threshold) (slot_of (slot_on slots.now leaf))) new) }
+    ensures { IfOk result (λ new. AreSlotsBy (length slots.now)
+        (λ leaf. checked_slot (settings_of problem.now) field
+        (idle (slice_index_or list.now leaf []) problem.now.dealloc_threshold) (slot_of (slot_on slots.now leaf)))
+        new) }
 {
     if !is_sparse(problem, field) {
         return copy_slots(alloc, slots);
@@ -151,8 +159,8 @@ fn copy_slots(alloc: Global, slots: &[Slot]) -> Result<FieldSlots, NoMemory>
     Ok(FieldSlots::from_slice(alloc, slots)?)
 }
 
-/// The mask after the exchange of a stage, of which `calls` says for each field and each leaf whether it calls for the field
-/// there. What is kept stays so; `problem`, `tree` and `lists` say which mesh was exchanged.
+/// The mask after the exchange of a stage, of which `calls` says for each field and each leaf whether it calls for the
+/// field there. What is kept stays so; `problem`, `tree` and `lists` say which mesh was exchanged.
 pub fn keep_by_exchange(
     alloc: Global,
     problem: &Problem,
@@ -161,10 +169,14 @@ pub fn keep_by_exchange(
     calls: &[Items<bool>],
     slots: &[FieldSlots],
 ) -> Result<Vec<FieldSlots>, NoMemory>
-    requires calls { let p = settings_of problem.now in let m = mesh_of tree.now problem.now.cells lists.now in calls.now ≡ table (field_count p) (λ f. map (exchange_calls p m f) m.leaves) }
+    requires calls { let p = settings_of problem.now in let m = mesh_of tree.now problem.now.cells lists.now in
+        calls.now ≡ table (field_count p) (λ f. map (exchange_calls p m f) m.leaves) }
     requires slots { AreSlots (field_count (settings_of problem.now)) (length (leaves tree.now)) slots.now }
-    ensures mask { let p = settings_of problem.now in let n = length (leaves tree.now) in IfOk result (λ new. mask_of n new.items ≡ kept_by_exchange p (mesh_of tree.now problem.now.cells lists.now) (mask_of n slots.now)) }
-    ensures slots { IfOk result (λ new. AreSlots (field_count (settings_of problem.now)) (length (leaves tree.now)) new.items) }
+    ensures mask { let p = settings_of problem.now in let n = length (leaves tree.now) in
+        IfOk result (λ new. mask_of n new.items
+        ≡ kept_by_exchange p (mesh_of tree.now problem.now.cells lists.now) (mask_of n slots.now)) }
+    ensures slots { IfOk result (λ new. AreSlots (field_count (settings_of problem.now))
+        (length (leaves tree.now)) new.items) }
 {
     let mut new = Vec::with_capacity(alloc, slots.len())?;
     for field in 0..slots.len() {
@@ -174,8 +186,8 @@ pub fn keep_by_exchange(
     Ok(new)
 }
 
-/// The mask after the reactions that leave this mesh: a field is kept from now on where some total of it is above the problem's
-/// threshold for that.
+/// The mask after the reactions that leave this mesh: a field is kept from now on where some total of it is above the
+/// problem's threshold for that.
 pub fn keep_by_reaction(
     alloc: Global,
     problem: &Problem,
@@ -186,8 +198,11 @@ pub fn keep_by_reaction(
 ) -> Result<Vec<FieldSlots>, NoMemory>
     requires mesh { IsMeshIn (settings_of problem.now) tree.now layout.now lists.now }
     requires slots { AreSlots (field_count (settings_of problem.now)) (length (leaves tree.now)) slots.now }
-    ensures mask { let p = settings_of problem.now in let n = length (leaves tree.now) in IfOk result (λ new. mask_of n new.items ≡ kept_by_reaction p (mesh_of tree.now problem.now.cells lists.now) (mask_of n slots.now)) }
-    ensures slots { IfOk result (λ new. AreSlots (field_count (settings_of problem.now)) (length (leaves tree.now)) new.items) }
+    ensures mask { let p = settings_of problem.now in let n = length (leaves tree.now) in
+        IfOk result (λ new. mask_of n new.items
+        ≡ kept_by_reaction p (mesh_of tree.now problem.now.cells lists.now) (mask_of n slots.now)) }
+    ensures slots { IfOk result (λ new. AreSlots (field_count (settings_of problem.now))
+        (length (leaves tree.now)) new.items) }
 {
     let mut new = Vec::with_capacity(alloc, slots.len())?;
     for field in 0..slots.len() {
@@ -198,8 +213,8 @@ pub fn keep_by_reaction(
     Ok(new)
 }
 
-/// The mask after the check of this mesh: a sparse field is freed where no total of it was above the problem's threshold for that
-/// at so many checks in a row as the problem says.
+/// The mask after the check of this mesh: a sparse field is freed where no total of it was above the problem's
+/// threshold for that at so many checks in a row as the problem says.
 pub fn keep_by_check(
     alloc: Global,
     problem: &Problem,
@@ -210,9 +225,13 @@ pub fn keep_by_check(
 ) -> Result<Vec<FieldSlots>, NoMemory>
     requires mesh { IsMeshIn (settings_of problem.now) tree.now layout.now lists.now }
     requires slots { AreSlots (field_count (settings_of problem.now)) (length (leaves tree.now)) slots.now }
-    requires fresh { (leaf f : ℕ) → leaf < length (leaves tree.now) → f < field_count (settings_of problem.now) → (slot_in slots.now f leaf).idle < problem.now.dealloc_count }
-    ensures mask { let p = settings_of problem.now in let n = length (leaves tree.now) in IfOk result (λ new. mask_of n new.items ≡ kept_by_check p (mesh_of tree.now problem.now.cells lists.now) (mask_of n slots.now)) }
-    ensures slots { IfOk result (λ new. AreSlots (field_count (settings_of problem.now)) (length (leaves tree.now)) new.items) }
+    requires fresh { (leaf f : ℕ) → leaf < length (leaves tree.now) → f < field_count (settings_of problem.now)
+        → (slot_in slots.now f leaf).idle < problem.now.dealloc_count }
+    ensures mask { let p = settings_of problem.now in let n = length (leaves tree.now) in
+        IfOk result (λ new. mask_of n new.items
+        ≡ kept_by_check p (mesh_of tree.now problem.now.cells lists.now) (mask_of n slots.now)) }
+    ensures slots { IfOk result (λ new. AreSlots (field_count (settings_of problem.now))
+        (length (leaves tree.now)) new.items) }
 {
     let mut new = Vec::with_capacity(alloc, slots.len())?;
     for field in 0..slots.len() {

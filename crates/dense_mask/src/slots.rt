@@ -24,7 +24,8 @@ use std::alloc::Global;
 /// A field's slot at the start, on a leaf with these totals.
 fn first_slot(problem: &Problem, field: u32, cells: &[u64]) -> Slot
     requires { field < field_count (settings_of problem.now) }
-    ensures { slot_of result ≡ called absent (not (is_sparse_field (settings_of problem.now) field) || not (idle cells.now 0)) }
+    ensures { slot_of result ≡ called absent
+        (not (is_sparse_field (settings_of problem.now) field) || not (idle cells.now 0)) }
 {
     Slot {
         kept: !is_sparse(problem, field) || !is_idle(cells, 0),
@@ -40,7 +41,9 @@ fn first_slots(
     list: &[Cells],
 ) -> Result<FieldSlots, NoMemory>
     requires { field < field_count (settings_of problem.now) }
-    ensures { IfOk result (λ slots. AreSlotsBy (length list.now) (λ leaf. called absent (not (is_sparse_field (settings_of problem.now) field) || not (idle (slice_index_or list.now leaf []) 0))) slots) }
+    ensures { IfOk result (λ slots. AreSlotsBy (length list.now)
+        (λ leaf. called absent (not (is_sparse_field (settings_of problem.now) field) || not
+        (idle (slice_index_or list.now leaf []) 0))) slots) }
 {
     let mut slots = Vec::with_capacity(alloc, list.len())?;
     for cells in list {
@@ -49,8 +52,8 @@ fn first_slots(
     Ok(FieldSlots::from_vec(slots))
 }
 
-/// The mask of the mesh at the start: a sparse field is kept on the leaves where it is not all zero, and every other field on
-/// each leaf.
+/// The mask of the mesh at the start: a sparse field is kept on the leaves where it is not all zero, and every other
+/// field on each leaf.
 pub fn kept_at_start(
     alloc: Global,
     problem: &Problem,
@@ -59,8 +62,11 @@ pub fn kept_at_start(
     lists: &[FieldTotals],
 ) -> Result<Vec<FieldSlots>, NoMemory>
     requires { IsMeshIn (settings_of problem.now) tree.now layout.now lists.now }
-    ensures mask { let p = settings_of problem.now in IfOk result (λ slots. mask_of (length (leaves tree.now)) slots.items ≡ kept_at_start p (mesh_of tree.now problem.now.cells lists.now)) }
-    ensures slots { IfOk result (λ slots. AreSlots (field_count (settings_of problem.now)) (length (leaves tree.now)) slots.items) }
+    ensures mask { let p = settings_of problem.now in
+        IfOk result (λ slots. mask_of (length (leaves tree.now)) slots.items
+        ≡ kept_at_start p (mesh_of tree.now problem.now.cells lists.now)) }
+    ensures slots { IfOk result (λ slots. AreSlots (field_count (settings_of problem.now))
+        (length (leaves tree.now)) slots.items) }
 {
     let mut slots = Vec::with_capacity(alloc, lists.len())?;
     for field in 0..lists.len() {
@@ -80,7 +86,8 @@ fn count_kept(slots: &[Slot]) -> usize
 /// On how many blocks a field is kept.
 pub fn blocks_with(slots: &[FieldSlots], field: u32) -> u64
     requires { field < length slots.now }
-    ensures { (fields leaves : ℕ) → AreSlots fields leaves slots.now → result ≡ blocks_with (mask_of leaves slots.now) field }
+    ensures { (fields leaves : ℕ) → AreSlots fields leaves slots.now
+        → result ≡ blocks_with (mask_of leaves slots.now) field }
 {
     count_kept(slots[field as usize].as_slice()) as u64
 }

@@ -30,7 +30,8 @@ fn react_rows<C: CellKernel>(
     requires small_cells { (place : ℕ) → place < size → sum (cell_in rows.old.items place) < 2 ^ 62 }
     requires small_flows { All (IsBelow (2 ^ 98)) flows.old }
     ensures rows { HasReacted (C.reacts (C.code kernel.now)) size rows.old.items rows.new.items }
-    ensures flows { HasGained (λ place. C.reacts (C.code kernel.now) (cell_in rows.old.items place)) size flows.old flows.new }
+    ensures flows { HasGained (λ place. C.reacts (C.code kernel.now) (cell_in rows.old.items place)) size flows.old
+        flows.new }
 {
     for place in 0..size {
         react_cell(kernel, rows, place, cell, flows);
@@ -56,7 +57,8 @@ fn push_rows(
     into: &mut Vec<FieldTotals>,
 ) -> Result<(), NoMemory>
     requires { length rows.old.items ≡ length into.old.items }
-    ensures { OnOk result (IsDone (λ f before after. after ≡ before ++ slice_index_or rows.old.items f [] ∷ []) [] into.old.items into.new.items) }
+    ensures { OnOk result (IsDone (λ f before after. after
+        ≡ before ++ slice_index_or rows.old.items f [] ∷ []) [] into.old.items into.new.items) }
 {
     for field in 0..rows.len() {
         let row = mem::replace(&mut rows[field], Cells::new(alloc));
@@ -83,10 +85,14 @@ pub fn react_leaf<C: CellKernel>(
     requires leaf { All (λ list. leaf < length list) lists.now }
     requires size { size ≤ 262144 }
     requires sizes { All (λ list. length (slice_index_or list leaf []) ≡ size) lists.now }
-    requires small_cells { (place : ℕ) → place < size → sum (cell_in (map (λ list. slice_index_or list leaf []) lists.now) place) < 2 ^ 62 }
+    requires small_cells { (place : ℕ) → place < size
+        → sum (cell_in (map (λ list. slice_index_or list leaf []) lists.now) place) < 2 ^ 62 }
     requires small_flows { All (IsBelow (2 ^ 98)) flows.old }
-    ensures lists { OnOk result (AddsReacted (C.reacts (C.code kernel.now)) size (map (λ list. slice_index_or list leaf []) lists.now) into.old.items into.new.items) }
-    ensures flows { OnOk result (HasGained (λ place. C.reacts (C.code kernel.now) (cell_in (map (λ list. slice_index_or list leaf []) lists.now) place)) size flows.old flows.new) }
+    ensures lists { OnOk result (AddsReacted (C.reacts (C.code kernel.now)) size
+        (map (λ list. slice_index_or list leaf []) lists.now) into.old.items into.new.items) }
+    ensures flows { OnOk result (HasGained
+        (λ place. C.reacts (C.code kernel.now) (cell_in (map (λ list. slice_index_or list leaf []) lists.now) place))
+        size flows.old flows.new) }
 {
     let mut rows = copy_rows(alloc, lists, leaf)?;
     react_rows(kernel, &mut rows, size, cell, flows);

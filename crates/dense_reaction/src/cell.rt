@@ -44,8 +44,8 @@ fn scatter(rows: &mut Vec<Cells>, place: usize, cell: &[u64])
     }
 }
 
-/// Applies a kernel in the cell at a place of a block, of which there is a row of totals for each field. The list `cell` serves
-/// to hold the totals of the cell.
+/// Applies a kernel in the cell at a place of a block, of which there is a row of totals for each field. The list
+/// `cell` serves to hold the totals of the cell.
 pub fn react_cell<C: CellKernel>(
     kernel: &C,
     rows: &mut Vec<Cells>,
@@ -59,7 +59,8 @@ pub fn react_cell<C: CellKernel>(
     requires place { All (λ row. place < length row) rows.old.items }
     requires small_cell { sum (cell_in rows.old.items place) < 2 ^ 62 }
     requires small_flows { All (IsBelow (2 ^ 99)) flows.old }
-    ensures rows { IsWritten place (C.reacts (C.code kernel.now) (cell_in rows.old.items place)).totals rows.old.items rows.new.items }
+    ensures rows { IsWritten place (C.reacts (C.code kernel.now) (cell_in rows.old.items place)).totals rows.old.items
+        rows.new.items }
     ensures flows { flows.new ≡ with_reacted flows.old (C.reacts (C.code kernel.now) (cell_in rows.old.items place)) }
 {
     let held = gather(rows, place, cell);

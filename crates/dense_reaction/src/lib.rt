@@ -1,7 +1,7 @@
 //! A kernel in all cells of a whole mesh in lists.
 //!
-//! [`react`] works leaf by leaf on a copy of the leaf's totals, so that the mesh stays as it is where memory runs out. Cells of
-//! zeros are left alone.
+//! [`react`] works leaf by leaf on a copy of the leaf's totals, so that the mesh stays as it is where memory runs out.
+//! Cells of zeros are left alone.
 #![tactic(auto)]
 
 mod block;

@@ -82,8 +82,12 @@ fn react_leaves<C: CellKernel>(
     requires fields { C.fields kernel.now ≡ field_count (settings_of problem.now) }
     requires cell { length cell.old ≡ length lists.now }
     requires flows { flows.old ≡ replicate (length lists.now) no_flow }
-    ensures lists { let n = field_count (settings_of problem.now) in let m = mesh_of tree.now problem.now.cells lists.now in IfOk result (λ lists. lists.items ≡ field_lists m n (λ f c. slice_index (reacted_cell (C.reacts (C.code kernel.now)) n m c).totals f)) }
-    ensures flows { OnOk result (HaveFlowed (C.reacts (C.code kernel.now)) (field_count (settings_of problem.now)) (mesh_of tree.now problem.now.cells lists.now) flows.new) }
+    ensures lists { let n = field_count (settings_of problem.now) in
+        let m = mesh_of tree.now problem.now.cells lists.now in
+        IfOk result (λ lists. lists.items ≡ field_lists m n
+        (λ f c. slice_index (reacted_cell (C.reacts (C.code kernel.now)) n m c).totals f)) }
+    ensures flows { OnOk result (HaveFlowed (C.reacts (C.code kernel.now)) (field_count (settings_of problem.now))
+        (mesh_of tree.now problem.now.cells lists.now) flows.new) }
 {
     let size = layout.interior_len();
     let leaves = tree.len() as usize;
@@ -94,8 +98,8 @@ fn react_leaves<C: CellKernel>(
     Ok(into)
 }
 
-/// Applies a kernel in each cell of a mesh, which stays as it is, and answers the totals that it leaves, and what it made and
-/// used of each field on the whole mesh.
+/// Applies a kernel in each cell of a mesh, which stays as it is, and answers the totals that it leaves, and what it
+/// made and used of each field on the whole mesh.
 pub fn react<C: CellKernel>(
     alloc: Global,
     kernel: &C,
@@ -106,9 +110,16 @@ pub fn react<C: CellKernel>(
 ) -> Result<ReactedMesh, NoMemory>
     requires mesh { IsMeshIn (settings_of problem.now) tree.now layout.now lists.now }
     requires fields { C.fields kernel.now ≡ field_count (settings_of problem.now) }
-    ensures lists { let n = field_count (settings_of problem.now) in let m = mesh_of tree.now problem.now.cells lists.now in IfOk result (λ r. r.lists.items ≡ field_lists m n (λ f c. slice_index (reacted_cell (C.reacts (C.code kernel.now)) n m c).totals f)) }
-    ensures made { let n = field_count (settings_of problem.now) in IfOk result (λ r. r.made.items ≡ table n (made_of (C.reacts (C.code kernel.now)) n (mesh_of tree.now problem.now.cells lists.now))) }
-    ensures used { let n = field_count (settings_of problem.now) in IfOk result (λ r. r.used.items ≡ table n (used_of (C.reacts (C.code kernel.now)) n (mesh_of tree.now problem.now.cells lists.now))) }
+    ensures lists { let n = field_count (settings_of problem.now) in
+        let m = mesh_of tree.now problem.now.cells lists.now in
+        IfOk result (λ r. r.lists.items ≡ field_lists m n
+        (λ f c. slice_index (reacted_cell (C.reacts (C.code kernel.now)) n m c).totals f)) }
+    ensures made { let n = field_count (settings_of problem.now) in
+        IfOk result (λ r. r.made.items ≡ table n
+        (made_of (C.reacts (C.code kernel.now)) n (mesh_of tree.now problem.now.cells lists.now))) }
+    ensures used { let n = field_count (settings_of problem.now) in
+        IfOk result (λ r. r.used.items ≡ table n
+        (used_of (C.reacts (C.code kernel.now)) n (mesh_of tree.now problem.now.cells lists.now))) }
 {
     let mut cell = vec![in alloc; 0u64; lists.len()]?;
     let mut gained = no_flows(alloc, lists.len())?;

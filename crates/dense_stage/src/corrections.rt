@@ -33,11 +33,13 @@ fn put_part(
 )
     requires axis { side.axis < layout.now.dims }
     requires half { half < 4 }
-    requires part { length part.now ≡ count_of (coarse_extents layout.now side.axis) + count_of (coarse_extents layout.now side.axis) }
+    requires part { length part.now ≡ count_of (coarse_extents layout.now side.axis)
+        + count_of (coarse_extents layout.now side.axis) }
     requires right_list { length right.old ≡ face_count layout.now }
     requires left_list { length left.old ≡ face_count layout.now }
     ensures rights { IsCorrected layout.now side.axis side.high half 0 part.now right.old right.new }
-    ensures lefts { IsCorrected layout.now side.axis side.high half (count_of (coarse_extents layout.now side.axis)) part.now left.old left.new }
+    ensures lefts { IsCorrected layout.now side.axis side.high half
+        (count_of (coarse_extents layout.now side.axis)) part.now left.old left.new }
     ensures right_size { length right.new ≡ face_count layout.now }
     ensures left_size { length left.new ≡ face_count layout.now }
 {
@@ -111,7 +113,9 @@ fn correct_side(
     requires own { HaveOwn tree.now layout.now x faces.old }
     ensures faces { AreFaceLists layout.now (length (leaves tree.now)) faces.new }
     ensures kept { OnOk result (KeepPairs tree.now layout.now x faces.old faces.new) }
-    ensures done { OnOk result ((l : Loc) → slice_get (leaves tree.now) leaf ≡ Some l → HasSidePairs (block_in tree.now layout.now x l) side.axis side.high (list_at faces.new.right.items leaf) (list_at faces.new.left.items leaf)) }
+    ensures done { OnOk result ((l : Loc) → slice_get (leaves tree.now) leaf ≡ Some l
+        → HasSidePairs (block_in tree.now layout.now x l) side.axis side.high (list_at faces.new.right.items leaf)
+        (list_at faces.new.left.items leaf)) }
 {
     let Behind::Fine(finer) = tree.behind(leaf, side) else {
         return Ok(());
@@ -139,7 +143,9 @@ fn correct_leaf(
     requires own { HaveOwn tree.now layout.now x faces.old }
     ensures faces { AreFaceLists layout.now (length (leaves tree.now)) faces.new }
     ensures kept { OnOk result (KeepPairs tree.now layout.now x faces.old faces.new) }
-    ensures done { OnOk result ((l : Loc) → slice_get (leaves tree.now) leaf ≡ Some l → HasPairs (block_in tree.now layout.now x l) (list_at faces.new.right.items leaf) (list_at faces.new.left.items leaf)) }
+    ensures done { OnOk result ((l : Loc) → slice_get (leaves tree.now) leaf ≡ Some l
+        → HasPairs (block_in tree.now layout.now x l) (list_at faces.new.right.items leaf)
+        (list_at faces.new.left.items leaf)) }
 {
     for axis in 0..layout.dims {
         let low = Side { axis, high: false };

@@ -42,7 +42,9 @@ fn passed_outside(tree: &Tree, layout: &Layout, leaf: u32, side: Side, list: &Ce
     requires dims { layout.now.dims ≡ tree.now.shape.dims }
     requires axis { side.axis < layout.now.dims }
     requires list { length list.now ≡ face_count layout.now }
-    ensures value { (l : Loc) → slice_get (leaves tree.now) leaf ≡ Some l → result ≡ when_outside (across tree.now.shape l side.axis side.high) (passed_side layout.now list.now side.axis side.high) }
+    ensures value { (l : Loc) → slice_get (leaves tree.now) leaf ≡ Some l
+        → result ≡ when_outside (across tree.now.shape l side.axis side.high)
+        (passed_side layout.now list.now side.axis side.high) }
     ensures most { result ≤ 2 ^ 84 }
 {
     match tree.behind(leaf, side) {
@@ -65,8 +67,10 @@ fn axis_flows(
     requires axis { axis < layout.now.dims }
     requires right { length right.now ≡ face_count layout.now }
     requires left { length left.now ≡ face_count layout.now }
-    ensures inflow { (l : Loc) → slice_get (leaves tree.now) leaf ≡ Some l → result.inflow ≡ inflow_along tree.now.shape l layout.now right.now left.now axis }
-    ensures outflow { (l : Loc) → slice_get (leaves tree.now) leaf ≡ Some l → result.outflow ≡ inflow_along tree.now.shape l layout.now left.now right.now axis }
+    ensures inflow { (l : Loc) → slice_get (leaves tree.now) leaf ≡ Some l
+        → result.inflow ≡ inflow_along tree.now.shape l layout.now right.now left.now axis }
+    ensures outflow { (l : Loc) → slice_get (leaves tree.now) leaf ≡ Some l
+        → result.outflow ≡ inflow_along tree.now.shape l layout.now left.now right.now axis }
     ensures most_in { result.inflow ≤ 2 ^ 85 }
     ensures most_out { result.outflow ≤ 2 ^ 85 }
 {
@@ -86,8 +90,10 @@ fn leaf_flows(tree: &Tree, layout: &Layout, leaf: u32, right: &Cells, left: &Cel
     requires dims { layout.now.dims ≡ tree.now.shape.dims }
     requires right { length right.now ≡ face_count layout.now }
     requires left { length left.now ≡ face_count layout.now }
-    ensures inflow { (l : Loc) → slice_get (leaves tree.now) leaf ≡ Some l → result.inflow ≡ sum_to layout.now.dims (inflow_along tree.now.shape l layout.now right.now left.now) }
-    ensures outflow { (l : Loc) → slice_get (leaves tree.now) leaf ≡ Some l → result.outflow ≡ sum_to layout.now.dims (inflow_along tree.now.shape l layout.now left.now right.now) }
+    ensures inflow { (l : Loc) → slice_get (leaves tree.now) leaf ≡ Some l
+        → result.inflow ≡ sum_to layout.now.dims (inflow_along tree.now.shape l layout.now right.now left.now) }
+    ensures outflow { (l : Loc) → slice_get (leaves tree.now) leaf ≡ Some l
+        → result.outflow ≡ sum_to layout.now.dims (inflow_along tree.now.shape l layout.now left.now right.now) }
     ensures most_in { result.inflow ≤ 2 ^ 87 }
     ensures most_out { result.outflow ≤ 2 ^ 87 }
 {

@@ -7,8 +7,8 @@ use block_layout::Layout;
 use cell_lists::{Cells, NoMemory};
 use std::alloc::Global;
 
-/// What passes the faces of each leaf of a mesh, to the right and to the left: for each leaf a list of the faces of its block,
-/// those of x1 first.
+/// What passes the faces of each leaf of a mesh, to the right and to the left: for each leaf a list of the faces of
+/// its block, those of x1 first.
 #[derive(Drop)]
 pub struct FaceLists {
     /// By leaf, what passes each face to the right.

@@ -1,7 +1,8 @@
 //! A stage of one field on a whole mesh in lists.
 //!
-//! [`advance`] takes the lists of the leaves, whose ghosts are filled, through the kernels of a block: what passes the faces of each
-//! leaf, flux correction where finer leaves stand behind a side, what flows through the faces of the domain, and the update.
+//! [`advance`] takes the lists of the leaves, whose ghosts are filled, through the kernels of a block: what passes the
+//! faces of each leaf, flux correction where finer leaves stand behind a side, what flows through the faces of the
+//! domain, and the update.
 #![tactic(auto)]
 
 mod corrections;

@@ -81,9 +81,12 @@ fn leaf_fluxes(
     requires right_list { length right.old ≡ face_count layout.now }
     requires left_list { length left.old ≡ face_count layout.now }
     requires small { All (λ t. t < 2 ^ 62) cells.now }
-    requires own { (l : Loc) → slice_get (leaves tree.now) leaf ≡ Some l → HasInterior (block_in tree.now layout.now (field_on problem.now lists field) l) cells.now }
-    requires around { (l : Loc) → slice_get (leaves tree.now) leaf ≡ Some l → SeesAround (block_in tree.now layout.now (field_on problem.now lists field) l) cells.now }
-    ensures own { (l : Loc) → slice_get (leaves tree.now) leaf ≡ Some l → HasOwn (block_in tree.now layout.now (field_on problem.now lists field) l) right.new left.new }
+    requires own { (l : Loc) → slice_get (leaves tree.now) leaf ≡ Some l
+        → HasInterior (block_in tree.now layout.now (field_on problem.now lists field) l) cells.now }
+    requires around { (l : Loc) → slice_get (leaves tree.now) leaf ≡ Some l
+        → SeesAround (block_in tree.now layout.now (field_on problem.now lists field) l) cells.now }
+    ensures own { (l : Loc) → slice_get (leaves tree.now) leaf ≡ Some l
+        → HasOwn (block_in tree.now layout.now (field_on problem.now lists field) l) right.new left.new }
     ensures right_size { length right.new ≡ length right.old }
     ensures left_size { length left.new ≡ length left.old }
 {
@@ -114,7 +117,8 @@ pub(crate) fn own_fluxes(
     requires shape { tree.now.shape ≡ problem.now.shape }
     requires levels { OnLeaves tree.now (λ _ l. l.level < problem.now.levels) }
     requires field { field < length problem.now.moves }
-    requires seen { SeeMesh (settings_of problem.now) (mesh_in tree.now (field_on problem.now lists field)) layout.now field ghosts.now.items }
+    requires seen { SeeMesh (settings_of problem.now)
+        (mesh_in tree.now (field_on problem.now lists field)) layout.now field ghosts.now.items }
     requires faces { AreFaceLists layout.now (length (leaves tree.now)) faces.old }
     ensures faces { AreFaceLists layout.now (length (leaves tree.now)) faces.new }
     ensures own { HaveOwn tree.now layout.now (field_on problem.now lists field) faces.new }

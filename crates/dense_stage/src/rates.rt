@@ -20,8 +20,10 @@ fn axis_rates(problem: &Problem, field: u32, axis: u32, level: u32) -> Rates
     requires field { field < length problem.now.moves }
     requires axis { axis < 3 }
     requires level { level < problem.now.levels }
-    ensures right { axis < problem.now.shape.dims → result.right ≡ (rates_at (settings_of problem.now) field axis level).right }
-    ensures left { axis < problem.now.shape.dims → result.left ≡ (rates_at (settings_of problem.now) field axis level).left }
+    ensures right { axis < problem.now.shape.dims
+        → result.right ≡ (rates_at (settings_of problem.now) field axis level).right }
+    ensures left { axis < problem.now.shape.dims
+        → result.left ≡ (rates_at (settings_of problem.now) field axis level).left }
     ensures right_fits { IsRateOf (settings_of problem.now) field result.right }
     ensures left_fits { IsRateOf (settings_of problem.now) field result.left }
 {
@@ -97,7 +99,9 @@ pub(crate) fn portions_at(
 fn is_closed(problem: &Problem, tree: &Tree, leaf: u32, side: Side) -> bool
     requires leaf { leaf < length (leaves tree.now) }
     requires axis { side.axis < 3 }
-    ensures { (l : Loc) → slice_get (leaves tree.now) leaf ≡ Some l → side.axis < tree.now.shape.dims → result ≡ reflects (kind_at (settings_of problem.now) side.axis side.high) (across tree.now.shape l side.axis side.high) }
+    ensures { (l : Loc) → slice_get (leaves tree.now) leaf ≡ Some l → side.axis < tree.now.shape.dims
+        → result ≡ reflects (kind_at (settings_of problem.now) side.axis side.high)
+        (across tree.now.shape l side.axis side.high) }
 {
     if side.axis >= tree.shape().dims {
         return false;

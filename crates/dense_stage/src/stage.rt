@@ -51,7 +51,8 @@ fn advance_leaves(
     requires seen { SeeMesh x.settings (mesh_in tree.now x) layout.now x.field ghosts.old.items }
     requires faces { AreFaceLists layout.now (length (leaves tree.now)) faces.old }
     requires small { OnLeaves tree.now (λ leaf l. StaysSmall (block_in tree.now layout.now x l)) }
-    ensures staged { IfOk result (λ advanced. advanced.totals ≡ field_list (mesh_in tree.now x) (staged x.settings (mesh_in tree.now x) x.field)) }
+    ensures staged { IfOk result (λ advanced. advanced.totals
+        ≡ field_list (mesh_in tree.now x) (staged x.settings (mesh_in tree.now x) x.field)) }
     ensures inflow { IfOk result (λ advanced. advanced.inflow ≡ inflow_of x.settings (mesh_in tree.now x) x.field) }
     ensures outflow { IfOk result (λ advanced. advanced.outflow ≡ outflow_of x.settings (mesh_in tree.now x) x.field) }
     ensures ghosts { AreGhostLists layout.now (length (leaves tree.now)) ghosts.new.items }
@@ -68,8 +69,9 @@ fn advance_leaves(
     })
 }
 
-/// Advances a field by a stage on a whole mesh: its lists by field and leaf are `lists`, and `ghosts` has a list of cells with ghosts
-/// for each leaf that shows the field. The lists in `ghosts` and `faces` are written over, and serve again.
+/// Advances a field by a stage on a whole mesh: its lists by field and leaf are `lists`, and `ghosts` has a list of
+/// cells with ghosts for each leaf that shows the field. The lists in `ghosts` and `faces` are written over, and serve
+/// again.
 ///
 /// NoMemory may come at any time.
 pub fn advance(
@@ -84,11 +86,16 @@ pub fn advance(
 ) -> Result<Advanced, NoMemory>
     requires mesh { CanStage (settings_of problem.now) tree.now layout.now lists.now }
     requires field { field < length problem.now.moves }
-    requires seen { SeeMesh (settings_of problem.now) (mesh_of tree.now problem.now.cells lists.now) layout.now field ghosts.old.items }
+    requires seen { SeeMesh (settings_of problem.now)
+        (mesh_of tree.now problem.now.cells lists.now) layout.now field ghosts.old.items }
     requires faces { AreFaceLists layout.now (length (leaves tree.now)) faces.old }
-    ensures staged { IfOk result (λ advanced. advanced.totals ≡ field_list (mesh_of tree.now problem.now.cells lists.now) (staged (settings_of problem.now) (mesh_of tree.now problem.now.cells lists.now) field)) }
-    ensures inflow { IfOk result (λ advanced. advanced.inflow ≡ inflow_of (settings_of problem.now) (mesh_of tree.now problem.now.cells lists.now) field) }
-    ensures outflow { IfOk result (λ advanced. advanced.outflow ≡ outflow_of (settings_of problem.now) (mesh_of tree.now problem.now.cells lists.now) field) }
+    ensures staged { IfOk result (λ advanced. advanced.totals
+        ≡ field_list (mesh_of tree.now problem.now.cells lists.now)
+        (staged (settings_of problem.now) (mesh_of tree.now problem.now.cells lists.now) field)) }
+    ensures inflow { IfOk result (λ advanced. advanced.inflow
+        ≡ inflow_of (settings_of problem.now) (mesh_of tree.now problem.now.cells lists.now) field) }
+    ensures outflow { IfOk result (λ advanced. advanced.outflow
+        ≡ outflow_of (settings_of problem.now) (mesh_of tree.now problem.now.cells lists.now) field) }
     ensures ghosts { AreGhostLists layout.now (length (leaves tree.now)) ghosts.new.items }
     ensures faces { AreFaceLists layout.now (length (leaves tree.now)) faces.new }
 {

@@ -83,7 +83,8 @@ fn update_leaf(layout: &Layout, cells: &mut Cells, right: &Cells, left: &Cells)
     requires right_list { length right.now ≡ face_count layout.now }
     requires left_list { length left.now ≡ face_count layout.now }
     requires passes { CanPass layout.now (listed layout.now right.now) (listed layout.now left.now) cells.old }
-    ensures passed { HasPassed layout.now (listed layout.now right.now) (listed layout.now left.now) cells.old cells.new }
+    ensures passed { HasPassed layout.now (listed layout.now right.now)
+        (listed layout.now left.now) cells.old cells.new }
     ensures ghosts { GhostsStay layout.now cells.old cells.new }
     ensures size { length cells.new ≡ length cells.old }
 {
@@ -111,7 +112,8 @@ pub(crate) fn stage_leaves(
     requires pairs { HavePairs tree.now layout.now x faces.now }
     requires small { OnLeaves tree.now (λ leaf l. StaysSmall (block_in tree.now layout.now x l)) }
     ensures ghosts { AreGhostLists layout.now (length (leaves tree.now)) ghosts.new.items }
-    ensures totals { IfOk result (λ totals. totals ≡ field_list (mesh_in tree.now x) (staged x.settings (mesh_in tree.now x) x.field)) }
+    ensures totals { IfOk result (λ totals. totals
+        ≡ field_list (mesh_in tree.now x) (staged x.settings (mesh_in tree.now x) x.field)) }
 {
     let mut totals = Vec::with_capacity(alloc, tree.len() as usize)?;
     for leaf in 0..tree.len() {

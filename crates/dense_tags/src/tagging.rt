@@ -23,7 +23,8 @@ pub struct TagsOfLeaves {
     pub counters: Vec<u32>,
 }
 
-/// The tags of the leaves at the end of a cycle, and their counters, by the mesh that the lists are and the counters before.
+/// The tags of the leaves at the end of a cycle, and their counters, by the mesh that the lists are and the counters
+/// before.
 pub fn tags(
     alloc: Global,
     problem: &Problem,
@@ -35,8 +36,10 @@ pub fn tags(
     requires mesh { IsMeshIn (settings_of problem.now) tree.now layout.now lists.now }
     requires count { length counters.now ≡ length (leaves tree.now) }
     requires counters { All (λ count. count ≤ problem.now.derefine_count) counters.now }
-    ensures tags { IfOk result (λ now. AreTagsAfter (settings_of problem.now) tree.now lists.now counters.now now.tags.items) }
-    ensures counters { IfOk result (λ now. AreCountersAfter (settings_of problem.now) tree.now lists.now counters.now now.counters.items) }
+    ensures tags { IfOk result (λ now. AreTagsAfter
+        (settings_of problem.now) tree.now lists.now counters.now now.tags.items) }
+    ensures counters { IfOk result (λ now.
+        AreCountersAfter (settings_of problem.now) tree.now lists.now counters.now now.counters.items) }
     ensures bound { IfOk result (λ now. All (λ count. count ≤ problem.now.derefine_count) now.counters.items) }
 {
     let criteria = problem.criteria.as_slice();

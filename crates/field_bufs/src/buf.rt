@@ -10,8 +10,8 @@ use mesh_num::NoMemory;
 use package_fields::Items;
 use std::alloc::Global;
 
-/// What a block holds of a field: the totals of its cells with their ghosts, x1 fastest, and what passes their faces to the
-/// right and to the left, those of x1 first.
+/// What a block holds of a field: the totals of its cells with their ghosts, x1 fastest, and what passes their faces
+/// to the right and to the left, those of x1 first.
 #[derive(Debug, Drop)]
 pub struct FieldBuf {
     /// The number of the block.

@@ -35,7 +35,8 @@ fn write_part(layout: &Layout, side: Side, right: &[u64], left: &[u64], part: &m
     requires axis { side.axis < layout.now.dims }
     requires right_list { length right.now ≡ face_count layout.now }
     requires left_list { length left.now ≡ face_count layout.now }
-    requires part { length part.old ≡ count_of (coarse_extents_of layout.now side.axis) + count_of (coarse_extents_of layout.now side.axis) }
+    requires part { length part.old ≡ count_of (coarse_extents_of layout.now side.axis)
+        + count_of (coarse_extents_of layout.now side.axis) }
     requires right_small { SumsBelow (2 ^ 64) layout.now side.axis side.high right.now }
     requires left_small { SumsBelow (2 ^ 64) layout.now side.axis side.high left.now }
     ensures { part.new ≡ flux_part layout.now side.axis side.high right.now left.now }

@@ -41,11 +41,13 @@ pub fn replace(
 )
     requires axis { side.axis < layout.now.dims }
     requires half { half < 4 }
-    requires part { length part.now ≡ count_of (coarse_extents_of layout.now side.axis) + count_of (coarse_extents_of layout.now side.axis) }
+    requires part { length part.now ≡ count_of (coarse_extents_of layout.now side.axis)
+        + count_of (coarse_extents_of layout.now side.axis) }
     requires right_list { length right.old ≡ face_count layout.now }
     requires left_list { length left.old ≡ face_count layout.now }
     ensures rights { IsCorrected layout.now side.axis side.high half 0 part.now right.old right.new }
-    ensures lefts { IsCorrected layout.now side.axis side.high half (count_of (coarse_extents_of layout.now side.axis)) part.now left.old left.new }
+    ensures lefts { IsCorrected layout.now side.axis side.high half
+        (count_of (coarse_extents_of layout.now side.axis)) part.now left.old left.new }
 {
     let extents = coarse_extents(layout, side.axis);
     let count = cell_count(&extents);

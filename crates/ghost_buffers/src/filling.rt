@@ -82,7 +82,8 @@ fn write_part(layout: &Layout, how: How, side: Side, half: u32, cells: &[u64], p
 
 /// Makes a field's part of the ghost letter to a leaf behind a side of the sender, from its list of cells with ghosts.
 ///
-/// `side` is the sender's own, and `half` the part of it that a finer receiver covers. The sums of a finer sender are below 2^62.
+/// `side` is the sender's own, and `half` the part of it that a finer receiver covers. The sums of a finer sender are
+/// below 2^62.
 pub fn fill(
     alloc: Global,
     layout: &Layout,

@@ -1,8 +1,8 @@
 //! Ghosts, and the letters that bring them.
 //!
-//! A block sends a letter across each of its sides to each leaf behind it, with one [`Part`] a field. [`fill`] makes a part of the
-//! sender's cells, and [`unfill`] writes the receiver's two layers of ghosts by it: copied from a sender of the same level, summed
-//! by a finer one, and divided into shares where the sender is coarser.
+//! A block sends a letter across each of its sides to each leaf behind it, with one [`Part`] a field. [`fill`] makes a
+//! part of the sender's cells, and [`unfill`] writes the receiver's two layers of ghosts by it: copied from a sender
+//! of the same level, summed by a finer one, and divided into shares where the sender is coarser.
 #![tactic(auto)]
 
 mod extents;

@@ -48,7 +48,8 @@ fn write_ghosts(
     requires part { length part.now ≡ count_of extents }
     requires list { length cells.old ≡ len layout.now }
     ensures given { IsGivenBy how layout.now extents region.now part.now cells.new }
-    ensures others { StaysOffBox (received_extents how layout.now.dims extents) (box_of layout.now region.now.low) cells.old cells.new }
+    ensures others { StaysOffBox (received_extents how layout.now.dims extents)
+        (box_of layout.now region.now.low) cells.old cells.new }
 {
     let from_box = whole(extents);
     let into_box = in_block(layout, region);
@@ -59,7 +60,8 @@ fn write_ghosts(
     }
 }
 
-/// Writes the ghosts next to a side of a block by a part of a letter that came across it. All other cells stay as they are.
+/// Writes the ghosts next to a side of a block by a part of a letter that came across it. All other cells stay as they
+/// are.
 ///
 /// `side` is the receiver's own, and `half` the part of it that a finer sender covers.
 pub fn unfill(layout: &Layout, how: How, side: Side, half: u32, part: &[u64], cells: &mut [u64])
@@ -67,8 +69,10 @@ pub fn unfill(layout: &Layout, how: How, side: Side, half: u32, part: &[u64], ce
     requires half { half < 4 }
     requires part { length part.now ≡ count_of (extents_of how layout.now side.axis) }
     requires cells { length cells.old ≡ len layout.now }
-    ensures ghosts { HasRegion layout.now (received_of how layout.now side.axis side.high half) (ghost_cell how layout.now side.axis part.now) cells.new }
-    ensures others { StaysOffRegion layout.now (received_of how layout.now side.axis side.high half) cells.old cells.new }
+    ensures ghosts { HasRegion layout.now (received_of how layout.now side.axis side.high half)
+        (ghost_cell how layout.now side.axis part.now) cells.new }
+    ensures others { StaysOffRegion layout.now
+        (received_of how layout.now side.axis side.high half) cells.old cells.new }
 {
     let extents = part_extents(layout, how, side.axis);
     let region = received(layout, how, side, half);

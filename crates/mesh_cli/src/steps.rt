@@ -64,7 +64,8 @@ fn accept_source<'a, D: Depot>(
 ) -> Result<Input, InputFault>
     requires { HasSeed arguments.now.source }
     ensures answer { AnswersSource (D.seen depot.old).inputs (seen_arguments arguments.now) result }
-    ensures after { AfterTaking (seen_source arguments.now.source) (result ≡ Err InputFault.ReadFault) (D.seen depot.old) (D.seen depot.new) }
+    ensures after { AfterTaking (seen_source arguments.now.source) (result ≡ Err InputFault.ReadFault)
+        (D.seen depot.old) (D.seen depot.new) }
 {
     let overrides = arguments.overrides.as_slice();
     match arguments.source {
@@ -92,7 +93,9 @@ fn outcome_of_input<'a, D: Depot>(
     depot: &mut D,
 ) -> Outcome
     requires { ForSome (D.seen depot.old).written IsClosed }
-    ensures ends { EndsBy (seen_arguments arguments.now).prefix (verdict_on (seen_arguments arguments.now) (seen_input input)) result (D.seen depot.old).written (D.seen depot.new).written }
+    ensures ends { EndsBy (seen_arguments arguments.now).prefix
+        (verdict_on (seen_arguments arguments.now) (seen_input input)) result (D.seen depot.old).written
+        (D.seen depot.new).written }
     ensures read { result ≢ Outcome.ReadFault }
     ensures after { AfterWrites (result ≡ Outcome.WriteFault) (D.seen depot.old) (D.seen depot.new) }
 {
@@ -125,7 +128,8 @@ fn outcome_of_run<D: Depot>(
     depot: &mut D,
 ) -> Outcome
     requires { ForSome (D.seen depot.old).written IsClosed }
-    ensures ends { RunEnds (settings_of problem.now) prefix.now result (D.seen depot.old).written (D.seen depot.new).written }
+    ensures ends { RunEnds (settings_of problem.now) prefix.now result (D.seen depot.old).written
+        (D.seen depot.new).written }
     ensures read { result ≢ Outcome.ReadFault }
     ensures after { AfterWrites (result ≡ Outcome.WriteFault) (D.seen depot.old) (D.seen depot.new) }
 {

@@ -15,8 +15,9 @@ pub fn look_laws()
     ensures add_up { LooksAddUp }
 {}
 
-/// A cell pays at most what it has in a stage, by either order, where the field's rates fit at the finest level: no total
-/// falls below zero. What leaves a cell with nothing in it, and what enters it from where nothing is seen, is nothing.
+/// A cell pays at most what it has in a stage, by either order, where the field's rates fit at the finest level: no
+/// total falls below zero. What leaves a cell with nothing in it, and what enters it from where nothing is seen, is
+/// nothing.
 pub fn pay_laws()
     ensures pays { PaysAtMost }
     ensures nothing { NothingFromNothing }
@@ -28,8 +29,8 @@ pub fn conservation_law()
     ensures { StageConserves }
 {}
 
-/// On any tree of the same lattice a field's total is what it was; on a balanced one the mesh is a mesh again, with just
-/// the tree's inner nodes.
+/// On any tree of the same lattice a field's total is what it was; on a balanced one the mesh is a mesh again, with
+/// just the tree's inner nodes.
 pub fn remap_laws()
     ensures totals { RemapKeepsTotals }
     ensures mesh { RemapIsMesh }

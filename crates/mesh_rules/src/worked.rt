@@ -17,8 +17,8 @@ pub fn worked_meshes()
     ensures letters { GradedLetters }
 {}
 
-/// Stages on trees that do not change: closed, periodic and open faces, both orders, a graded tree, a corner of one, and
-/// three axes in use.
+/// Stages on trees that do not change: closed, periodic and open faces, both orders, a graded tree, a corner of one,
+/// and three axes in use.
 pub fn worked_faces()
     ensures reflecting { ReflectingRow }
     ensures periodic { PeriodicRow }

@@ -59,7 +59,8 @@ pub fn read_arguments<'a>(alloc: Global, words: &'a [String]) -> Result<Argument
 }
 
 fn refusal(error: &Error) -> UsageFault
-    ensures { ((kind_of error.now ≡ ErrorKind.OutOfMemory) × (result ≡ UsageFault.NoMemory)) ⊎ ((kind_of error.now ≢ ErrorKind.OutOfMemory) × (result ≡ UsageFault.NotTheCommand)) }
+    ensures { ((kind_of error.now ≡ ErrorKind.OutOfMemory) × (result ≡ UsageFault.NoMemory))
+        ⊎ ((kind_of error.now ≢ ErrorKind.OutOfMemory) × (result ≡ UsageFault.NotTheCommand)) }
 {
     match error.kind() {
         ErrorKind::OutOfMemory => UsageFault::NoMemory,
@@ -89,7 +90,9 @@ fn arguments_with<'a>(
 ) -> Result<Arguments<'a>, UsageFault>
     requires workers { passes is_workers (seen_raw raw.now).workers ≡ true }
     requires seed { passes is_seed (seen_raw raw.now).seed ≡ true }
-    ensures answer { Answers seen_arguments result (arguments_with (seen_raw raw.now) (overrides_by (rows_of (found_of matches.now))) (source_of (seen_raw raw.now))) }
+    ensures answer { Answers seen_arguments result
+        (arguments_with (seen_raw raw.now) (overrides_by (rows_of (found_of matches.now)))
+        (source_of (seen_raw raw.now))) }
     ensures least_workers { IfOk result (λ w. 1 ≤ w.workers) }
     ensures most_workers { IfOk result (λ w. w.workers ≤ 64) }
     ensures seed { IfOk result (λ w. HasSeed w.source) }

@@ -43,9 +43,11 @@ fn react_cells<C: CellKernel>(
     requires cell { cell.old ≡ replicate (length flows.old) 0 }
     requires bufs { AreOf layout.now fresh.block (length flows.old) bufs.old }
     requires made { made.old.items ≡ [] }
-    requires small_cells { (k : ℕ) → k < interior_len layout.now → sum (totals_at bufs.old (length flows.old) (inner_place layout.now k)) < 2 ^ 62 }
+    requires small_cells { (k : ℕ) → k < interior_len layout.now
+        → sum (totals_at bufs.old (length flows.old) (inner_place layout.now k)) < 2 ^ 62 }
     requires small_flows { All (IsBelow (2 ^ 98)) flows.old }
-    ensures { OnOk result (Reached (C.reacts (C.code kernel.now)) layout.now fresh.block fresh.stamp bufs.old flows.old (interior_len layout.now) bufs.new made.new.items flows.new) }
+    ensures { OnOk result (Reached (C.reacts (C.code kernel.now)) layout.now fresh.block fresh.stamp bufs.old
+        flows.old (interior_len layout.now) bufs.new made.new.items flows.new) }
 {
     let along1 = layout.cells[0] as usize;
     let rows = layout.cells[1] as usize * layout.cells[2] as usize;
@@ -58,11 +60,12 @@ fn react_cells<C: CellKernel>(
     Ok(())
 }
 
-/// Applies a kernel in each interior cell of a block, of which the buffers are those of the fields that are allocated there;
-/// the others have zeros. Changes the buffers and answers the new ones, which are those of the fields that had none and of
-/// which the kernel makes something in some cell, by rising field, with this stamp and nothing through their faces. Ghosts,
-/// stamps and what passes the faces of the buffers stay. Each flow gains what was made and used of its field in all cells.
-/// After want of memory the buffers and flows hold anything; more fields than buffers can name are refused like that too.
+/// Applies a kernel in each interior cell of a block, of which the buffers are those of the fields that are allocated
+/// there; the others have zeros. Changes the buffers and answers the new ones, which are those of the fields that had
+/// none and of which the kernel makes something in some cell, by rising field, with this stamp and nothing through
+/// their faces. Ghosts, stamps and what passes the faces of the buffers stay. Each flow gains what was made and used
+/// of its field in all cells. After want of memory the buffers and flows hold anything; more fields than buffers can
+/// name are refused like that too.
 pub fn react_block<C: CellKernel>(
     alloc: Global,
     kernel: &C,
@@ -74,10 +77,13 @@ pub fn react_block<C: CellKernel>(
 ) -> Result<Bufs, NoMemory>
     requires fields { C.fields kernel.now ≡ length flows.old }
     requires bufs { AreOf layout.now block (length flows.old) bufs.old }
-    requires small_cells { (k : ℕ) → k < interior_len layout.now → sum (totals_at bufs.old (length flows.old) (inner_place layout.now k)) < 2 ^ 62 }
+    requires small_cells { (k : ℕ) → k < interior_len layout.now
+        → sum (totals_at bufs.old (length flows.old) (inner_place layout.now k)) < 2 ^ 62 }
     requires small_flows { All (IsBelow (2 ^ 98)) flows.old }
-    ensures reacted { IfOk result (λ made. HasReacted (C.reacts (C.code kernel.now)) layout.now block stamp (length flows.old) bufs.old bufs.new made) }
-    ensures gained { OnOk result (HasGained (C.reacts (C.code kernel.now)) layout.now bufs.old (interior_len layout.now) flows.old flows.new) }
+    ensures reacted { IfOk result (λ made.
+        HasReacted (C.reacts (C.code kernel.now)) layout.now block stamp (length flows.old) bufs.old bufs.new made) }
+    ensures gained { OnOk result (HasGained (C.reacts (C.code kernel.now)) layout.now bufs.old
+        (interior_len layout.now) flows.old flows.new) }
 {
     let mut made = Vec::new(alloc);
     if bufs.is_empty() {

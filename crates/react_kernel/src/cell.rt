@@ -81,7 +81,8 @@ fn scatter_made(made: &mut Vec<FieldBuf>, place: usize, cell: &[u64])
     scatter(made, place, cell);
 }
 
-/// Applies a kernel in the cell at a place of a block. The list `cell` serves to hold its totals, and is zeros before and after.
+/// Applies a kernel in the cell at a place of a block. The list `cell` serves to hold its totals, and is zeros before
+/// and after.
 pub fn react_cell<C: CellKernel>(
     kernel: &C,
     layout: &Layout,
@@ -101,10 +102,15 @@ pub fn react_cell<C: CellKernel>(
     requires small_cell { sum (totals_at (bufs.old ++ made.old.items) (length flows.old) place) < 2 ^ 62 }
     requires small_flows { All (IsBelow (2 ^ 99)) flows.old }
     ensures cell { OnOk result (cell.new ≡ replicate (length flows.old) 0) }
-    ensures flows { OnOk result (flows.new ≡ with_reacted flows.old (C.reacts (C.code kernel.now) (totals_at (bufs.old ++ made.old.items) (length flows.old) place))) }
+    ensures flows { OnOk result (flows.new
+        ≡ with_reacted flows.old (C.reacts (C.code kernel.now)
+        (totals_at (bufs.old ++ made.old.items) (length flows.old) place))) }
     ensures bufs { OnOk result (AreOf layout.now fresh.block (length flows.old) bufs.new) }
-    ensures made { OnOk result (AreFresh layout.now fresh.block fresh.stamp (length flows.old) bufs.new made.new.items) }
-    ensures step { OnOk result (CellStep (C.reacts (C.code kernel.now) (totals_at (bufs.old ++ made.old.items) (length flows.old) place)) place (length flows.old) bufs.old made.old.items bufs.new made.new.items) }
+    ensures made { OnOk result (AreFresh layout.now fresh.block fresh.stamp
+        (length flows.old) bufs.new made.new.items) }
+    ensures step { OnOk result (CellStep (C.reacts (C.code kernel.now)
+        (totals_at (bufs.old ++ made.old.items) (length flows.old) place)) place
+        (length flows.old) bufs.old made.old.items bufs.new made.new.items) }
 {
     let held = gather_all(layout, fresh, bufs, made, place, cell);
     if held == 0 {

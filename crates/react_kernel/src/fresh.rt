@@ -94,8 +94,8 @@ fn sum_over(bufs: &[FieldBuf], cell: &[u64]) -> u64
     held
 }
 
-/// Adds the buffers that the totals of a cell call for, where these add up to `held`. None is looked for where the fields that
-/// have buffers hold all of that.
+/// Adds the buffers that the totals of a cell call for, where these add up to `held`. None is looked for where the
+/// fields that have buffers hold all of that.
 pub fn add_missing(
     layout: &Layout,
     fresh: Fresh,

@@ -26,7 +26,8 @@ impl ReactKernel {
     pub fn new(alloc: Global, reactions: &[Reaction], fields: u32) -> Result<ReactKernel, NoMemory>
         requires few { length reactions.now ≤ 256 }
         requires sound { All (CanReact fields) reactions.now }
-        ensures code { IfOk result (λ kernel. ⟦<ReactKernel as CellKernel>⟧.code kernel ≡ code_of fields reactions.now) }
+        ensures code { IfOk result (λ kernel. ⟦<ReactKernel as CellKernel>⟧.code kernel
+            ≡ code_of fields reactions.now) }
         ensures fields { IfOk result (λ kernel. ⟦<ReactKernel as CellKernel>⟧.fields kernel ≡ fields) }
     {
         let reactions = Vec::from_slice(alloc, reactions)?;
@@ -57,8 +58,10 @@ fn react_once(reaction: &Reaction, cell: &mut [u64], flows: &mut [Flow])
     requires as_many { length flows.old ≡ length cell.old }
     requires small_cell { sum cell.old < 2 ^ 62 }
     requires small_flows { All (IsBelow (2 ^ 100)) flows.old }
-    ensures cell { let moved = portion (slice_index cell.old reaction.now.from) reaction.now.num reaction.now.den in cell.new ≡ added (taken cell.old reaction.now.from moved) reaction.now.to moved }
-    ensures flows { let moved = portion (slice_index cell.old reaction.now.from) reaction.now.num reaction.now.den in Moves flows.old flows.new reaction.now.from reaction.now.to moved }
+    ensures cell { let moved = portion (slice_index cell.old reaction.now.from) reaction.now.num reaction.now.den in
+        cell.new ≡ added (taken cell.old reaction.now.from moved) reaction.now.to moved }
+    ensures flows { let moved = portion (slice_index cell.old reaction.now.from) reaction.now.num reaction.now.den in
+        Moves flows.old flows.new reaction.now.from reaction.now.to moved }
 {
     let from = reaction.from as usize;
     let to = reaction.to as usize;

@@ -38,7 +38,8 @@ fn row_at<'a>(layout: &Layout, cells: &'a [u64], own: &BoxIn, row: usize, plane:
     requires own { IsBoxIn layout.now.cells own.now (length cells.now) }
     requires row { IsRowOf layout.now.cells row plane }
     ensures len { length result.now ≡ slice_index layout.now.cells 0 }
-    ensures cells { (x : ℕ) → x < slice_index layout.now.cells 0 → slice_index result.now x ≡ total_at cells.now own.now (x ∷ row ∷ plane ∷ []) }
+    ensures cells { (x : ℕ) → x < slice_index layout.now.cells 0
+        → slice_index result.now x ≡ total_at cells.now own.now (x ∷ row ∷ plane ∷ []) }
 {
     let [along1, along2, along3] = layout.cells;
     let extents = [along1 as usize, along2 as usize, along3 as usize];
@@ -57,8 +58,11 @@ fn step_beside(
 ) -> u64
     requires own { IsBoxIn layout.now.cells own.now (length cells.now) }
     requires here { length here.now ≡ slice_index layout.now.cells 0 }
-    ensures each { (x : ℕ) → x < slice_index layout.now.cells 0 → IsRowOf layout.now.cells row plane → difference (slice_index here.now x) (total_at cells.now own.now (x ∷ row ∷ plane ∷ [])) ≤ result }
-    ensures least { (most : ℕ) → ((x : ℕ) → x < slice_index layout.now.cells 0 → IsRowOf layout.now.cells row plane → difference (slice_index here.now x) (total_at cells.now own.now (x ∷ row ∷ plane ∷ [])) ≤ most) → result ≤ most }
+    ensures each { (x : ℕ) → x < slice_index layout.now.cells 0 → IsRowOf layout.now.cells row plane
+        → difference (slice_index here.now x) (total_at cells.now own.now (x ∷ row ∷ plane ∷ [])) ≤ result }
+    ensures least { (most : ℕ) → ((x : ℕ) → x < slice_index layout.now.cells 0 → IsRowOf layout.now.cells row plane
+        → difference (slice_index here.now x) (total_at cells.now own.now (x ∷ row ∷ plane ∷ [])) ≤ most)
+        → result ≤ most }
 {
     if row < layout.cells[1] as usize && plane < layout.cells[2] as usize {
         greatest_difference(here, row_at(layout, cells, own, row, plane))
@@ -78,8 +82,10 @@ fn greatest_in_row(
 ) -> u64
     requires own { IsBoxIn layout.now.cells own.now (length cells.now) }
     requires row { IsRowOf layout.now.cells row plane }
-    ensures each { (x : ℕ) → x < slice_index layout.now.cells 0 → measured_at method layout.now (total_at cells.now own.now) (x ∷ row ∷ plane ∷ []) ≤ result }
-    ensures least { (most : ℕ) → ((x : ℕ) → x < slice_index layout.now.cells 0 → measured_at method layout.now (total_at cells.now own.now) (x ∷ row ∷ plane ∷ []) ≤ most) → result ≤ most }
+    ensures each { (x : ℕ) → x < slice_index layout.now.cells 0
+        → measured_at method layout.now (total_at cells.now own.now) (x ∷ row ∷ plane ∷ []) ≤ result }
+    ensures least { (most : ℕ) → ((x : ℕ) → x < slice_index layout.now.cells 0
+        → measured_at method layout.now (total_at cells.now own.now) (x ∷ row ∷ plane ∷ []) ≤ most) → result ≤ most }
 {
     let here = row_at(layout, cells, own, row, plane);
     match method {
@@ -104,8 +110,8 @@ fn greatest_in_block(method: Method, layout: &Layout, cells: &[u64], own: &BoxIn
     best
 }
 
-/// What a criterion wishes for a block of a level, whose own cells lie as a box in a list: with ghosts (see [`own_cells`]) or
-/// without.
+/// What a criterion wishes for a block of a level, whose own cells lie as a box in a list: with ghosts (see
+/// [`own_cells`]) or without.
 pub fn wish_of(
     criterion: &Criterion,
     level: u32,
@@ -115,7 +121,8 @@ pub fn wish_of(
 ) -> Wish
     requires level { level ≤ 10 }
     requires own { IsBoxIn layout.now.cells own.now (length cells.now) }
-    ensures { result ≡ wish_by criterion.now level (measured_in criterion.now.method layout.now level (total_at cells.now own.now)) }
+    ensures { result ≡ wish_by criterion.now level
+        (measured_in criterion.now.method layout.now level (total_at cells.now own.now)) }
 {
     let greatest = greatest_in_block(criterion.method, layout, cells, own);
     let measure = u128::from(greatest) * u128::from(2u64.pow(layout.dims * level));

@@ -26,7 +26,8 @@ pub(crate) fn greatest(row: &[u64]) -> u64
 /// The greatest difference of two numbers of a row that stand side by side.
 #[tactic(auto, using(crate::proofs::Greatest::greatest_more))]
 pub(crate) fn greatest_step(row: &[u64]) -> u64
-    ensures { result ≡ greatest_to (length row.now - 1) (λ x. difference_of (slice_index row.now x) (slice_index row.now (x + 1))) }
+    ensures { result ≡ greatest_to (length row.now - 1)
+        (λ x. difference_of (slice_index row.now x) (slice_index row.now (x + 1))) }
 {
     let mut best = 0;
     if row.is_empty() {
@@ -42,7 +43,8 @@ pub(crate) fn greatest_step(row: &[u64]) -> u64
 #[tactic(auto, using(crate::proofs::Greatest::greatest_more))]
 pub(crate) fn greatest_difference(row: &[u64], next: &[u64]) -> u64
     requires { length next.now ≡ length row.now }
-    ensures { result ≡ greatest_to (length row.now) (λ x. difference_of (slice_index row.now x) (slice_index next.now x)) }
+    ensures { result ≡ greatest_to (length row.now)
+        (λ x. difference_of (slice_index row.now x) (slice_index next.now x)) }
 {
     let mut best = 0;
     for x in 0..row.len() {

@@ -9,8 +9,8 @@ use crate::shares::{Shares, refined_extents};
 use block_regions::write_box_rows;
 use cell_boxes::BoxIn;
 
-/// Writes the fine cells in a box of coarse ones of these extents, each by its share of the coarse cell that it lies in. Along
-/// each axis in use two fine cells lie in a coarse one.
+/// Writes the fine cells in a box of coarse ones of these extents, each by its share of the coarse cell that it lies
+/// in. Along each axis in use two fine cells lie in a coarse one.
 pub fn prolong_box(
     dims: u32,
     extents: [usize; 3],

@@ -9,8 +9,8 @@ use crate::sums::Sums;
 use block_regions::write_box_rows;
 use cell_boxes::BoxIn;
 
-/// Writes a box of coarse cells of these extents by the sums over the fine cells of another list's box. Along each axis one fine
-/// cell lies in a coarse one, or two.
+/// Writes a box of coarse cells of these extents by the sums over the fine cells of another list's box. Along each
+/// axis one fine cell lies in a coarse one, or two.
 pub fn restrict_box(
     factors: [usize; 3],
     extents: [usize; 3],

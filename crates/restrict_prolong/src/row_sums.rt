@@ -17,8 +17,11 @@ fn add_each(from: &[u64], into: &mut [u64])
 /// Adds to each number of a row the two in its place.
 fn add_pairs(from: &[u64], into: &mut [u64])
     requires lengths { length from.now ≡ 2 * length into.old }
-    requires small { (x : ℕ) → x < length into.old → slice_index into.old x + slice_index from.now (2 * x) + slice_index from.now (2 * x + 1) < 2 ^ 64 }
-    ensures { (x : ℕ) → x < length into.old → slice_index into.new x ≡ slice_index into.old x + slice_index from.now (2 * x) + slice_index from.now (2 * x + 1) }
+    requires small { (x : ℕ) → x < length into.old
+        → slice_index into.old x + slice_index from.now (2 * x) + slice_index from.now (2 * x + 1) < 2 ^ 64 }
+    ensures { (x : ℕ) → x < length into.old
+        → slice_index into.new x ≡ slice_index into.old x + slice_index from.now (2 * x)
+        + slice_index from.now (2 * x + 1) }
 {
     for x in 0..into.len() {
         into[x] = into[x] + from[2 * x] + from[2 * x + 1];

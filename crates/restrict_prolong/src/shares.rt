@@ -34,8 +34,10 @@ fn spread_row(from: &[u64], dims: u32, j: u64, into: &mut [u64])
     requires dims { dims ≤ 3 }
     requires part { j + 1 < 2 ^ dims }
     requires lengths { length into.old ≡ 2 * length from.now }
-    ensures low { (x : ℕ) → x < length from.now → slice_index into.new (2 * x) ≡ share_of (slice_index from.now x) (2 ^ dims) j }
-    ensures high { (x : ℕ) → x < length from.now → slice_index into.new (2 * x + 1) ≡ share_of (slice_index from.now x) (2 ^ dims) (j + 1) }
+    ensures low { (x : ℕ) → x < length from.now
+        → slice_index into.new (2 * x) ≡ share_of (slice_index from.now x) (2 ^ dims) j }
+    ensures high { (x : ℕ) → x < length from.now
+        → slice_index into.new (2 * x + 1) ≡ share_of (slice_index from.now x) (2 ^ dims) (j + 1) }
 {
     for x in 0..from.len() {
         into[2 * x] = share_by_shift(from[x], dims, j);

@@ -34,7 +34,8 @@ pub fn restrict(dims: u32, n: [u32; 3], fine: &[u64], into: &mut [u64])
     requires most { dims ≤ 3 }
     requires fine { length fine.now ≡ count_of (refined (factors_of dims) n) }
     requires coarse { length into.old ≡ count_of n }
-    requires small { (i : List ℕ) → IsWithin n i → sum_in (factors_of dims) (at_index (refined (factors_of dims) n) fine.now) i < 2 ^ 64 }
+    requires small { (i : List ℕ) → IsWithin n i
+        → sum_in (factors_of dims) (at_index (refined (factors_of dims) n) fine.now) i < 2 ^ 64 }
     ensures { into.new ≡ restricted dims n fine.now }
 {
     if into.is_empty() {

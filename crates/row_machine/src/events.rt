@@ -45,7 +45,8 @@ pub fn take(slot: Slot, has_flag: bool) -> Slot
     }
 }
 
-/// A letter's part comes. It makes a buffer of zeros where there is none and the part is not zero, also beneath a lease.
+/// A letter's part comes. It makes a buffer of zeros where there is none and the part is not zero, also beneath a
+/// lease.
 pub fn come(slot: Slot, part: u64) -> Slot
     ensures { ComesAs part slot result }
 {
@@ -64,7 +65,8 @@ pub fn come(slot: Slot, part: u64) -> Slot
     }
 }
 
-/// A task that changes no buffer is given: to send, to post and to tag, and in a row, where no block is finer, to correct.
+/// A task that changes no buffer is given: to send, to post and to tag, and in a row, where no block is finer, to
+/// correct.
 pub fn release(slot: Slot) -> Slot
     ensures { ReleasesAs slot result }
 {
@@ -74,7 +76,8 @@ pub fn release(slot: Slot) -> Slot
     }
 }
 
-/// Ghosts are filled with what lies beyond the two ends; where something flows in from outside, a buffer is made that was not lent.
+/// Ghosts are filled with what lies beyond the two ends; where something flows in from outside, a buffer is made that
+/// was not lent.
 pub fn fill(slot: Slot, low: u64, high: u64, flows_in: bool, calls: bool) -> Slot
     ensures { FillsAs low high flows_in calls slot result }
 {
@@ -161,7 +164,8 @@ pub fn update(slot: Slot) -> Slot
     }
 }
 
-/// A cell's reaction came to a result: the field is kept where it was or where the result is above the threshold, and else dropped.
+/// A cell's reaction came to a result: the field is kept where it was or where the result is above the threshold, and
+/// else dropped.
 pub fn react(slot: Slot, above: u64, result_cell: u64) -> Slot
     requires small { IsSmall slot }
     requires few { result_cell < 2 ^ 62 }
@@ -208,7 +212,8 @@ fn lent_cell(slot: Slot) -> u64
     }
 }
 
-/// The check: a field that was idle at so many checks in a row is freed and dropped, and so is a buffer of a field that is not kept.
+/// The check: a field that was idle at so many checks in a row is freed and dropped, and so is a buffer of a field
+/// that is not kept.
 pub fn check(slot: Slot, idle_at: u64, limit: u64) -> Slot
     requires { IsSmall slot }
     ensures { ChecksAs idle_at limit slot result }

@@ -1,8 +1,9 @@
 //! A small machine over numbers: one field of one block of a row, and what each event of a cycle makes of it.
 //!
-//! Each function's contract ties it to the sparse machine of `sparse_rounds` over the kernels of a row (`specs/Row.antt` there):
-//! whatever list of tasks a slot shows a place of, the new slot shows that place after the event. The tests run whole cycles of it
-//! through legal orders of events that are drawn by chance, and compare each end with the run stage by stage.
+//! Each function's contract ties it to the sparse machine of `sparse_rounds` over the kernels of a row
+//! (`specs/Row.antt` there): whatever list of tasks a slot shows a place of, the new slot shows that place after the
+//! event. The tests run whole cycles of it through legal orders of events that are drawn by chance, and compare each
+//! end with the run stage by stage.
 #![tactic(auto)]
 
 mod events;

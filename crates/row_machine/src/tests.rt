@@ -1,5 +1,5 @@
-//! Whole cycles of a row of four blocks, each a list of its own, through legal orders of events that are drawn by chance; each end is
-//! compared with the run of whole meshes, stage by stage.
+//! Whole cycles of a row of four blocks, each a list of its own, through legal orders of events that are drawn by
+//! chance; each end is compared with the run of whole meshes, stage by stage.
 
 ghost use Rattle.std.specs.Prelude.{◌<◌, vec_len};
 
@@ -399,8 +399,8 @@ fn has_ended_as(row: &Row, run: &Run) -> bool {
     true
 }
 
-/// Every order ends as the run of whole meshes does: with zero thresholds and others, with inflow and without, with places that come
-/// to be kept, that only have scratch buffers, and that are freed.
+/// Every order ends as the run of whole meshes does: with zero thresholds and others, with inflow and without, with
+/// places that come to be kept, that only have scratch buffers, and that are freed.
 #[test]
 fn every_order_ends_as_the_whole_meshes_do(rt: HostRuntime) -> Result<(), Fail> {
     let plain = Case {

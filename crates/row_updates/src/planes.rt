@@ -41,8 +41,12 @@ pub fn update_planes<R: RowRule>(
     requires seconds { FitPlanes len count planes second (length one.now) }
     requires thirds { FitPlanes len count planes third (length other.now) }
     requires fourths { FitPlanes len count planes fourth (length other.now) }
-    requires taken { TakesPlanes (R.takes op.now) (record { one = one.now; first = first; second = second; other = other.now; third = third; fourth = fourth }) len count planes at into.old }
-    ensures inside { PlanesDone (R.gives op.now) (record { one = one.now; first = first; second = second; other = other.now; third = third; fourth = fourth }) len count planes at into.old into.new }
+    requires taken { TakesPlanes (R.takes op.now)
+        (record { one = one.now; first = first; second = second; other = other.now; third = third; fourth = fourth })
+        len count planes at into.old }
+    ensures inside { PlanesDone (R.gives op.now)
+        (record { one = one.now; first = first; second = second; other = other.now; third = third; fourth = fourth })
+        len count planes at into.old into.new }
     ensures outside { PlanesStay len count planes at into.old into.new }
 {
     for plane in 0..planes {

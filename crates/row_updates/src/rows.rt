@@ -27,8 +27,12 @@ pub(crate) fn update_rows<R: RowRule>(
     requires seconds { Fits len count second (length one.now) }
     requires thirds { Fits len count third (length other.now) }
     requires fourths { Fits len count fourth (length other.now) }
-    requires taken { TakesRows (R.takes op.now) (record { one = one.now; first = first; second = second; other = other.now; third = third; fourth = fourth }) len count at into.old }
-    ensures inside { RowsDone (R.gives op.now) (record { one = one.now; first = first; second = second; other = other.now; third = third; fourth = fourth }) len count at into.old into.new }
+    requires taken { TakesRows (R.takes op.now)
+        (record { one = one.now; first = first; second = second; other = other.now; third = third; fourth = fourth })
+        len count at into.old }
+    ensures inside { RowsDone (R.gives op.now)
+        (record { one = one.now; first = first; second = second; other = other.now; third = third; fourth = fourth })
+        len count at into.old into.new }
     ensures outside { RowsStay len count at into.old into.new }
 {
     for row in 0..count {

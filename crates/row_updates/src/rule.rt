@@ -23,6 +23,9 @@ pub trait RowRule {
         requires seconds { length second.now ≡ length into.old }
         requires thirds { length third.now ≡ length into.old }
         requires fourths { length fourth.now ≡ length into.old }
-        requires taken { (k : ℕ) → k < length into.old → takes self.now (numbers_at into.old first.now second.now third.now fourth.now k) }
-        ensures { (k : ℕ) → k < length into.old → slice_index into.new k ≡ gives self.now (numbers_at into.old first.now second.now third.now fourth.now k) };
+        requires taken { (k : ℕ) → k < length into.old
+            → takes self.now (numbers_at into.old first.now second.now third.now fourth.now k) }
+        ensures { (k : ℕ) → k < length into.old
+            → slice_index into.new k ≡ gives self.now
+            (numbers_at into.old first.now second.now third.now fourth.now k) };
 }

@@ -7,16 +7,16 @@ ghost use Rattle.run_laws.specs.MaskLaws.{CyclesAreZeroOutside, MasksStayFit, Op
 ghost use Rattle.run_laws.specs.TreeLaws.{NextIsLeastTree, OpeningIsLeastTree, RunsStandOnTrees};
 ghost use Rattle.run_laws.specs.ZeroThresholds.{ZeroThresholdRunsAreDense, ZeroThresholdRunsStopAlike, ZeroThresholdsAreUnmasked};
 
-/// The opening tree and each next tree are the least ones, and each leaf changes by at most one level; so every mesh of a
-/// run stands on a balanced tree with no more levels than the problem allows.
+/// The opening tree and each next tree are the least ones, and each leaf changes by at most one level; so every mesh
+/// of a run stands on a balanced tree with no more levels than the problem allows.
 pub fn tree_laws()
     ensures opening { OpeningIsLeastTree }
     ensures next { NextIsLeastTree }
     ensures meshes { RunsStandOnTrees }
 {}
 
-/// In each cycle, from any state on a balanced tree and by any kernel, a field's total changes by the recorded flows and
-/// drops alone; so each row of a run's history balances.
+/// In each cycle, from any state on a balanced tree and by any kernel, a field's total changes by the recorded flows
+/// and drops alone; so each row of a run's history balances.
 pub fn history_law()
     ensures cycles { CyclesBalance }
     ensures rows { HistoryBalances }
@@ -32,9 +32,9 @@ pub fn bound_laws()
     ensures runs { RunsStayWithin }
 {}
 
-/// After each stage of a cycle, after its reaction and after its check, a field that does not stay on a leaf is zero in
-/// each of its cells. The opening's mask has a slot that fits for each leaf and field, and so has each mask after a cycle
-/// on the same tree.
+/// After each stage of a cycle, after its reaction and after its check, a field that does not stay on a leaf is zero
+/// in each of its cells. The opening's mask has a slot that fits for each leaf and field, and so has each mask after a
+/// cycle on the same tree.
 pub fn mask_laws()
     ensures outside { CyclesAreZeroOutside }
     ensures opening { OpeningMaskFits }

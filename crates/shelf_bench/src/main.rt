@@ -1,6 +1,6 @@
-//! A million places come and a million go on a shelf of 16,384 blocks with 256 fields, in an order that jumps about: each
-//! place of a series is allocated, or freed where it is there, and then the series is run through once more, which frees
-//! what is left. Prints how many came and went; `bench/shelves.sh` measures the time.
+//! A million places come and a million go on a shelf of 16,384 blocks with 256 fields, in an order that jumps about:
+//! each place of a series is allocated, or freed where it is there, and then the series is run through once more,
+//! which frees what is left. Prints how many came and went; `bench/shelves.sh` measures the time.
 #![tactic(auto)]
 
 ghost use Rattle.std.specs.Prelude.{◌≡◌, ◌≤◌, ◌<◌, ◌+◌, ◌-◌, ◌^◌, IfOk};

@@ -16,8 +16,8 @@ use upwind_fluxes::{Donor, LevelRates, Multipliers, greatest_bits};
 /// left, from the cell above it, each the upwind portion of the paying cell's total reconstructed at the face, floored;
 /// nothing at a closed side.
 ///
-/// `cells` has both layers of ghosts filled. `right` and `left` have the faces of x1, then of x2, then of x3, x1 fastest.
-/// `closed` is in the order x1 low, x1 high, x2 low, x2 high, x3 low, x3 high.
+/// `cells` has both layers of ghosts filled. `right` and `left` have the faces of x1, then of x2, then of x3, x1
+/// fastest. `closed` is in the order x1 low, x1 high, x2 low, x2 high, x3 low, x3 high.
 pub fn slope_fluxes(
     layout: &Layout,
     rates: &LevelRates,

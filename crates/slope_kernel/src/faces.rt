@@ -13,7 +13,8 @@ use stage_rules::SlopePay;
 use upwind_fluxes::{Donor, face_extents};
 use upwind_portions::Portions;
 
-/// The cells of one number beside the faces of an axis: 0 and 1 lie below the face, 2 and 3 above it, by rising coordinate.
+/// The cells of one number beside the faces of an axis: 0 and 1 lie below the face, 2 and 3 above it, by rising
+/// coordinate.
 fn beside(layout: &Layout, axis: u32, number: usize) -> BoxIn
     requires { axis < layout.now.dims }
     ensures { result ≡ cells_beside layout.now axis number }

@@ -4,8 +4,8 @@ use problem_set::Rates;
 use std::test::Fail;
 use upwind_fluxes::LevelRates;
 
-/// Four cells between their ghosts, with 4 in the first one and 8 in the second, and half of each cell moves to the right:
-/// the first cell counts for 6 and pays 3, the second, which is a crest, counts for itself and pays 4.
+/// Four cells between their ghosts, with 4 in the first one and 8 in the second, and half of each cell moves to the
+/// right: the first cell counts for 6 and pays 3, the second, which is a crest, counts for itself and pays 4.
 #[test]
 fn a_rise_pays_more(rt: HostRuntime) -> Result<(), Fail> {
     let layout = Layout {

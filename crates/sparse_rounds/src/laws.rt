@@ -7,8 +7,8 @@ ghost use Rattle.sparse_rounds.specs.Epochs.{EpochTells};
 ghost use Rattle.sparse_rounds.specs.Row.{RowsMeetTheLaws};
 ghost use Rattle.sparse_rounds.specs.Laws.{BuffersAreThose, EndsMasked, LettersStayTrue, StaysMasked};
 
-/// Every state that is reached agrees with the masked serial run: values, ghosts, pairs, what is kept and where buffers are,
-/// counts, sums and drops, and what letters hold.
+/// Every state that is reached agrees with the masked serial run: values, ghosts, pairs, what is kept and where
+/// buffers are, counts, sums and drops, and what letters hold.
 pub fn masked_law<X, V, G, F, P, W>()
     ensures places { StaysMasked X V G F P W }
     ensures letters { LettersStayTrue X V G F P W }

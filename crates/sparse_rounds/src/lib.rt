@@ -1,10 +1,11 @@
 //! Sparse buffers under any order of events: every legal list of events ends as the masked serial run does.
 //!
-//! A cycle has `S` stages, and then a reaction, tags and a check. In a stage each list of tasks sends ghosts, fills its own, computes
-//! fluxes, posts the flux sums that coarser blocks need, corrects its pairs by those it gets, and updates its cells. A Sparse field
-//! has a buffer only where it is kept, where something that is not zero came, or where something flows in; letters may come at
-//! any time after they were sent, also while their reader works, and then make buffers beneath its lease. What is not kept is made
-//! zero by an update or a reaction, and what it held is recorded as dropped.
+//! A cycle has `S` stages, and then a reaction, tags and a check. In a stage each list of tasks sends ghosts, fills
+//! its own, computes fluxes, posts the flux sums that coarser blocks need, corrects its pairs by those it gets, and
+//! updates its cells. A Sparse field has a buffer only where it is kept, where something that is not zero came, or
+//! where something flows in; letters may come at any time after they were sent, also while their reader works, and
+//! then make buffers beneath its lease. What is not kept is made zero by an update or a reaction, and what it held is
+//! recorded as dropped.
 //!
 //! | File of `specs/` | What a reader has to believe |
 //! |---|---|
@@ -24,9 +25,10 @@
 //! | [`epoch_law`] | while the epoch of a list stays, so do the places that its tasks would be lent |
 //! | [`row_law`], [`corner_law`] | a row of blocks of one level, and a coarse block beside finer ones, meet what is asked of kernels |
 //!
-//! Shapes: a block and a field are numbers; a place is a block and a field. `V` is a field's cells on a block, `G` its ghosts, `F` its
-//! faces' flux pairs, `P` a field's part of a letter, `X` what a letter is about (a side of a block, and a block behind it), `W` a
-//! block's wish for the next mesh. Sums are kept by place; a field's is their sum over blocks.
+//! Shapes: a block and a field are numbers; a place is a block and a field. `V` is a field's cells on a block, `G` its
+//! ghosts, `F` its faces' flux pairs, `P` a field's part of a letter, `X` what a letter is about (a side of a block,
+//! and a block behind it), `W` a block's wish for the next mesh. Sums are kept by place; a field's is their sum over
+//! blocks.
 #![tactic(auto)]
 
 mod laws;

@@ -10,8 +10,8 @@ use upwind_portions::Portions;
 /// A row of cells gains from the cells below and above it along an axis, and loses through its two faces: the first row
 /// beside it is that of the cells below, the second and the third are the cells themselves, the fourth the cells above.
 ///
-/// `from_below` is what the cells below pay through the low faces, `from_above` what those above pay through the high ones,
-/// `to_below` and `to_above` what the cells themselves pay.
+/// `from_below` is what the cells below pay through the low faces, `from_above` what those above pay through the high
+/// ones, `to_below` and `to_above` what the cells themselves pay.
 #[derive(Clone, Copy, Debug)]
 pub struct CellPass<A, B, C, D> {
     pub from_below: A,

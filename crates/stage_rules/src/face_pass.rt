@@ -5,9 +5,9 @@ ghost use Rattle.stage_rules.specs.Rules.{Passes, after_pass};
 
 use row_updates::RowRule;
 
-/// A row of cells gains and loses through its two faces of an axis: the first row beside it is what passes its low faces to
-/// the right, the second its high faces to the right, the third its low faces to the left, the fourth its high faces to the
-/// left.
+/// A row of cells gains and loses through its two faces of an axis: the first row beside it is what passes its low
+/// faces to the right, the second its high faces to the right, the third its low faces to the left, the fourth its
+/// high faces to the left.
 #[derive(Clone, Copy, Debug)]
 pub struct FacePass;
 

@@ -1,7 +1,7 @@
 //! What becomes of a row of cells or faces in a stage.
 //!
-//! Each rule goes over rows along x1 and writes one: [`FacePass`] moves what passes the faces of an axis, [`CellPass`] what
-//! the cells beside one another pay each other, and [`SlopePay`] writes what cells pay by the second order.
+//! Each rule goes over rows along x1 and writes one: [`FacePass`] moves what passes the faces of an axis, [`CellPass`]
+//! what the cells beside one another pay each other, and [`SlopePay`] writes what cells pay by the second order.
 #![tactic(auto)]
 
 mod cell_pass;

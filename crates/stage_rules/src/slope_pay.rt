@@ -7,8 +7,8 @@ ghost use Rattle.stage_rules.specs.Rules.{limited};
 use row_updates::RowRule;
 use upwind_portions::Portions;
 
-/// A row of faces of what the cells beside them pay: the first row beside it is that of the cells behind those that pay, the
-/// second is those that pay, the third those ahead of them, beyond the face. The fourth is not read.
+/// A row of faces of what the cells beside them pay: the first row beside it is that of the cells behind those that
+/// pay, the second is those that pay, the third those ahead of them, beyond the face. The fourth is not read.
 #[derive(Clone, Copy, Debug)]
 pub struct SlopePay<P> {
     pub portions: P,
@@ -28,7 +28,8 @@ pub(crate) fn limited_total(behind: u64, here: u64, ahead: u64) -> u64
 impl<P: Portions> RowRule for SlopePay<P> {
     ghost gives = { λ s n. portion (limited n.first n.second n.third) (P.rate s.portions) (P.denominator s.portions) };
 
-    ghost takes = { λ s n. (n.second ≤ P.greatest s.portions) × (n.third ≤ P.greatest s.portions) × (n.second < 2 ^ 62) × (n.third < 2 ^ 62) };
+    ghost takes = { λ s n. (n.second ≤ P.greatest s.portions) × (n.third ≤ P.greatest s.portions)
+        × (n.second < 2 ^ 62) × (n.third < 2 ^ 62) };
 
     fn update_row(
         &self,

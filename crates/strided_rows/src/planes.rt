@@ -6,7 +6,8 @@ ghost use Rattle.strided_rows.specs.Written.{FitPlanes, planes_written};
 use crate::row_map::RowMap;
 use crate::rows::{Rows, write_rows};
 
-/// Where the rows of planes lie in a list: the place of the first row, and the steps from row to row and from plane to plane.
+/// Where the rows of planes lie in a list: the place of the first row, and the steps from row to row and from plane to
+/// plane.
 #[derive(Clone, Copy, Debug)]
 pub struct Planes {
     pub first: usize,

@@ -22,7 +22,13 @@ impl Model for Task {
 
     ghost Value = { Listed };
 
-    ghost view = { λ task. record { kind = task.kind; stage = task.stage; after = task.after.items; is_complete = task.is_complete } };
+    ghost view = { λ task. record {
+      kind = task.kind;
+      stage = task.stage;
+      after = task.after.items;
+      is_complete =
+          task.is_complete;
+    } };
 }
 
 /// Tasks, each after some of those before it. Their ids count from 0.

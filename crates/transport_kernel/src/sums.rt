@@ -39,12 +39,15 @@ fn rows_sum(list: &[u64], start: usize, step: usize, len: usize, count: usize) -
 
 /// The sum of a box, whose planes lie at equal steps too.
 fn box_sum(list: &[u64], start: usize, step: usize, plane: usize, extents: [usize; 3]) -> u128
-    requires fits { (y z : ℕ) → y < slice_index extents 1 → z < slice_index extents 2 → start + z * plane + y * step + slice_index extents 0 ≤ length list.now }
+    requires fits { (y z : ℕ) → y < slice_index extents 1 → z < slice_index extents 2
+        → start + z * plane + y * step + slice_index extents 0 ≤ length list.now }
     requires some { 1 ≤ slice_index extents 1 }
     requires short { slice_index extents 0 ≤ 65 }
     requires few { slice_index extents 1 ≤ 65 }
     requires planes { slice_index extents 2 ≤ 65 }
-    ensures { result ≡ sum_below (slice_index extents 2) (λ z. sum_below (slice_index extents 1) (λ y. sum_below (slice_index extents 0) (λ x. slice_index list.now (start + z * plane + y * step + x)))) }
+    ensures { result ≡ sum_below (slice_index extents 2)
+        (λ z. sum_below (slice_index extents 1)
+        (λ y. sum_below (slice_index extents 0) (λ x. slice_index list.now (start + z * plane + y * step + x)))) }
 {
     let mut sum = 0u128;
     for z in 0..extents[2] {
@@ -75,9 +78,9 @@ fn extents_at(layout: &Layout, axis: u32) -> [usize; 3]
     extents
 }
 
-/// The sum of what passes the faces at one side of a block, by the list of one direction. At a face of the domain it is what
-/// flows in or out there: at a low side the list to the right gives what flows in, that to the left what flows out, and at a
-/// high side the other way round.
+/// The sum of what passes the faces at one side of a block, by the list of one direction. At a face of the domain it
+/// is what flows in or out there: at a low side the list to the right gives what flows in, that to the left what flows
+/// out, and at a high side the other way round.
 ///
 /// `list` has the faces of x1, then of x2, then of x3, x1 fastest.
 pub fn passed(layout: &Layout, side: Side, list: &[u64]) -> u128

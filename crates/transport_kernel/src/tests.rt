@@ -2,7 +2,8 @@ use crate::update;
 use block_layout::Layout;
 use std::test::Fail;
 
-/// Four cells between their ghosts, of which the first pays 2 to the right, and the ghost above the last pays 2 to the left.
+/// Four cells between their ghosts, of which the first pays 2 to the right, and the ghost above the last pays 2 to the
+/// left.
 #[test]
 fn a_row_moves_both_ways(rt: HostRuntime) -> Result<(), Fail> {
     let layout = Layout {

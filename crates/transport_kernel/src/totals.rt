@@ -17,8 +17,10 @@ fn update_along(layout: &Layout, axis: u32, cells: &mut [u64], right: &[u64], le
     requires cell_list { length cells.old ≡ len layout.now }
     requires right_list { length right.now ≡ face_count layout.now }
     requires left_list { length left.now ≡ face_count layout.now }
-    requires passes { CanPassAlong layout.now axis (listed layout.now right.now) (listed layout.now left.now) cells.old }
-    ensures along { HasPassedAlong layout.now axis (listed layout.now right.now) (listed layout.now left.now) cells.old cells.new }
+    requires passes { CanPassAlong layout.now axis (listed layout.now right.now)
+        (listed layout.now left.now) cells.old }
+    ensures along { HasPassedAlong layout.now axis (listed layout.now right.now)
+        (listed layout.now left.now) cells.old cells.new }
     ensures ghosts { GhostsStay layout.now cells.old cells.new }
 {
     let low = faces_beside(layout, axis, false);
@@ -37,18 +39,19 @@ fn update_along(layout: &Layout, axis: u32, cells: &mut [u64], right: &[u64], le
     );
 }
 
-/// Makes of the totals of a block those after a stage: each interior cell gains what passes to the right through its low
-/// faces and to the left through its high faces, and loses what passes to the left through its low faces and to the right
-/// through its high faces. Ghosts stay as they are.
+/// Makes of the totals of a block those after a stage: each interior cell gains what passes to the right through its
+/// low faces and to the left through its high faces, and loses what passes to the left through its low faces and to
+/// the right through its high faces. Ghosts stay as they are.
 ///
-/// `right` and `left` have the faces of x1, then of x2, then of x3, x1 fastest, as [`fluxes`](crate::fluxes) writes them.
-/// No cell may lose more than it has, and none may come to 2^63.
+/// `right` and `left` have the faces of x1, then of x2, then of x3, x1 fastest, as [`fluxes`](crate::fluxes) writes
+/// them. No cell may lose more than it has, and none may come to 2^63.
 pub fn update(layout: &Layout, cells: &mut [u64], right: &[u64], left: &[u64])
     requires cell_list { length cells.old ≡ len layout.now }
     requires right_list { length right.now ≡ face_count layout.now }
     requires left_list { length left.now ≡ face_count layout.now }
     requires passes { CanPass layout.now (listed layout.now right.now) (listed layout.now left.now) cells.old }
-    ensures passed { HasPassed layout.now (listed layout.now right.now) (listed layout.now left.now) cells.old cells.new }
+    ensures passed { HasPassed layout.now (listed layout.now right.now)
+        (listed layout.now left.now) cells.old cells.new }
     ensures ghosts { GhostsStay layout.now cells.old cells.new }
 {
     for axis in 0..layout.dims {

@@ -1,7 +1,8 @@
-//! Builds trees of blocks. A word chooses which: `uniform` (64 by 64 roots, refined to level 2 everywhere; where no word is
-//! given), `corner` (10 by 10 by 10 roots, graded to level 8 around a corner) or `next` (63 by 64 roots, refined to level 2
-//! everywhere, and the next tree where one leaf is to be refined). Each further word is one more time that the tree, or the
-//! next tree, is built. Prints how many leaves the last one has; `bench/trees.sh` measures the time.
+//! Builds trees of blocks. A word chooses which: `uniform` (64 by 64 roots, refined to level 2 everywhere; where no
+//! word is given), `corner` (10 by 10 by 10 roots, graded to level 8 around a corner) or `next` (63 by 64 roots,
+//! refined to level 2 everywhere, and the next tree where one leaf is to be refined). Each further word is one more
+//! time that the tree, or the next tree, is built. Prints how many leaves the last one has; `bench/trees.sh` measures
+//! the time.
 #![tactic(auto)]
 
 mod cases;

@@ -30,8 +30,8 @@ fn opened(alloc: Global, shape: Shape, cells: [u32; 3], area: StaticBox) -> Resu
     Tree::from_static(alloc, shape, cells, &[area])
 }
 
-/// How many leaves the tree that follows has, or would have. The leaves from one on, up to another, have a tag, the others
-/// stay.
+/// How many leaves the tree that follows has, or would have. The leaves from one on, up to another, have a tag, the
+/// others stay.
 fn next(alloc: Global, made: Result<Tree, TreeFault>, tag: Tag, from: u32, to: u32) -> u64 {
     match made {
         Ok(tree) => match tags_with(alloc, tree.len(), tag, from, to) {
@@ -50,8 +50,8 @@ fn next_with(alloc: Global, tree: &Tree, tags: &[Tag]) -> u64 {
     }
 }
 
-/// What is behind a side: the level over the leaf's own, from 1, or 0 for a face of the domain; how many leaves; the first
-/// and the last of them.
+/// What is behind a side: the level over the leaf's own, from 1, or 0 for a face of the domain; how many leaves; the
+/// first and the last of them.
 fn sight_of(behind: &Behind) -> [u32; 4] {
     match behind {
         Behind::Outside => [0; 4],
@@ -219,8 +219,8 @@ fn square_follows(alloc: Global) -> bool {
         && next(alloc, square(alloc, 1), Tag::Merge, 0, 4) == 1
 }
 
-/// A root does not merge whose corner touches a fine leaf, but where that leaf merges too. A leaf of level 2 that is refined
-/// has its three coarser neighbours refined.
+/// A root does not merge whose corner touches a fine leaf, but where that leaf merges too. A leaf of level 2 that is
+/// refined has its three coarser neighbours refined.
 fn middle_follows(alloc: Global) -> bool {
     next(alloc, middle(alloc), Tag::Same, 0, 19) == 19
         && next(alloc, middle(alloc), Tag::Merge, 15, 19) == 19

@@ -45,7 +45,8 @@ impl Log {
     // Adds a note, where there is memory for it, and raises the epoch of the partition.
     fn note(&mut self, seat: u32, what: u32, p: u32) -> Result<(), AllocError>
         requires { p < length self.old.epochs.items }
-        ensures notes { AddsAtMostOne seat (map (λ note. note.seat ∷ note.what ∷ []) self.old.notes.items) (map (λ note. note.seat ∷ note.what ∷ []) self.new.notes.items) }
+        ensures notes { AddsAtMostOne seat (map (λ note. note.seat ∷ note.what ∷ []) self.old.notes.items)
+            (map (λ note. note.seat ∷ note.what ∷ []) self.new.notes.items) }
         ensures epochs { OnlyRises (Some p) self.old.epochs.items self.new.epochs.items }
     {
         let epoch = self.epochs[p as usize].saturating_add(1);

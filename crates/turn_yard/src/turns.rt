@@ -89,7 +89,8 @@ pub fn take<R: Wait, T: Entries>(rt: &R, shared: &Turns<T>, seat: &mut Seat<T>, 
 
 /// Raises the word of the mark that has risen.
 pub fn raise<T: Entries>(shared: &Turns<T>, seat: &mut Seat<T>, value: &T, changed: Option<u32>)
-    requires table { (seat.old.table_id ≡ shared.now.table_id) × (suc (length seat.old.me.0.known.noted) ≡ shared.now.table_id.words) }
+    requires table { (seat.old.table_id ≡ shared.now.table_id)
+        × (suc (length seat.old.me.0.known.noted) ≡ shared.now.table_id.words) }
     requires seat { (seat.old.me.0.in_use ≡ true) × (seat.old.me.0.holds ≡ true) }
     requires marks { OnlyRises changed seat.old.me.0.known.noted (T.marks value.now) }
     ensures seat { Keeps seat.old seat.new }
@@ -117,7 +118,8 @@ pub fn give<T: Entries>(shared: &Turns<T>, seat: &mut Seat<T>, value: T)
 
 /// Reads the word of a mark.
 pub fn look<T: Entries>(shared: &Turns<T>, seat: &mut Seat<T>, p: u32) -> u64
-    requires table { (seat.old.table_id ≡ shared.now.table_id) × (suc (length seat.old.me.0.known.noted) ≡ shared.now.table_id.words) }
+    requires table { (seat.old.table_id ≡ shared.now.table_id)
+        × (suc (length seat.old.me.0.known.noted) ≡ shared.now.table_id.words) }
     requires seat { seat.old.me.0.in_use ≡ true }
     requires partition { p < length seat.old.me.0.known.noted }
     ensures seat { Keeps seat.old seat.new }

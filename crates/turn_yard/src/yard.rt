@@ -108,7 +108,13 @@ impl<T: Entries> Yard<T> {
         requires origin { T.origin value ≡ seat.old.origin }
         requires entries { AddsAtMostOne seat.old.number seat.old.seen (T.entries value) }
         requires marks { OnlyRises changed seat.old.noted (T.marks value) }
-        ensures { seat.new ≡ record seat.old { seen = T.entries value; own = seat.old.own ++ added_to seat.old.seen (T.entries value); noted = T.marks value; holds = false } }
+        ensures { seat.new ≡ record seat.old {
+          seen = T.entries value;
+          own = seat.old.own
+              ++ added_to seat.old.seen (T.entries value);
+          noted = T.marks value;
+          holds = false;
+        } }
     {
         turns::raise(&self.table.shared, &mut seat.seat, &value, changed);
         turns::give(&self.table.shared, &mut seat.seat, value);

@@ -18,8 +18,8 @@ use block_layout::Layout;
 /// Writes what passes every face of a block: to the right, from the cell below the face, and to the left, from the cell
 /// above it, each the upwind portion of the total, floored; nothing at a closed side.
 ///
-/// `cells` has the ghosts filled. `right` and `left` have the faces of x1, then of x2, then of x3, x1 fastest. `closed` is
-/// in the order x1 low, x1 high, x2 low, x2 high, x3 low, x3 high.
+/// `cells` has the ghosts filled. `right` and `left` have the faces of x1, then of x2, then of x3, x1 fastest.
+/// `closed` is in the order x1 low, x1 high, x2 low, x2 high, x3 low, x3 high.
 pub fn fluxes(
     layout: &Layout,
     rates: &LevelRates,

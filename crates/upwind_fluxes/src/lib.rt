@@ -1,10 +1,10 @@
 //! What passes the faces of a block's cells in a stage, by the first order.
 //!
-//! A face has a total that passes to the right, which the cell below it pays, and one to the left, which the cell above
-//! it pays. Each is the upwind portion: the floor of the paying cell's total times the rate over the denominator.
-//! [`fluxes`] writes both for every face of a block, from its cells and filled ghosts, for one to three axes in use. It
-//! makes no division: the rates' [`Multipliers`] are made once for a field and a level, and each block takes the fastest
-//! tier that its totals allow.
+//! A face has a total that passes to the right, which the cell below it pays, and one to the left, which the cell
+//! above it pays. Each is the upwind portion: the floor of the paying cell's total times the rate over the
+//! denominator. [`fluxes`] writes both for every face of a block, from its cells and filled ghosts, for one to three
+//! axes in use. It makes no division: the rates' [`Multipliers`] are made once for a field and a level, and each block
+//! takes the fastest tier that its totals allow.
 #![tactic(auto)]
 
 mod all_faces;

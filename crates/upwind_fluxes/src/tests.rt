@@ -3,8 +3,8 @@ use block_layout::Layout;
 use problem_set::Rates;
 use std::test::Fail;
 
-/// Four cells between their ghosts, with 8 in the first one and 3 in the last: a quarter moves to the right and an eighth
-/// to the left, and the low side is closed.
+/// Four cells between their ghosts, with 8 in the first one and 3 in the last: a quarter moves to the right and an
+/// eighth to the left, and the low side is closed.
 #[test]
 fn a_row_pays_both_ways(rt: HostRuntime) -> Result<(), Fail> {
     let layout = Layout {

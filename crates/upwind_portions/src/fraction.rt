@@ -9,8 +9,8 @@ use crate::middle::Middle;
 use crate::narrow::Narrow;
 use crate::portions::Still;
 
-/// A rate over its denominator, with the multipliers of each tier. It is made once for a field, an axis, a direction and a
-/// level, and serves any number of blocks.
+/// A rate over its denominator, with the multipliers of each tier. It is made once for a field, an axis, a direction
+/// and a level, and serves any number of blocks.
 #[derive(Clone, Copy, Debug)]
 pub struct Fraction {
     pub rate: u64,

@@ -36,7 +36,8 @@ impl Portions for Still {
     }
 }
 
-/// The product with a multiplier, divided by a power of two, is the portion, where the total is small enough for that power.
+/// The product with a multiplier, divided by a power of two, is the portion, where the total is small enough for that
+/// power.
 pub fn multiplier_law()
     ensures { MultiplierIsExact }
 {}

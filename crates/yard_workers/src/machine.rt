@@ -72,7 +72,8 @@ pub trait Machine: Entries + Send + Drop {
         ensures origin { Self.origin self.new ≡ Self.origin self.old }
         ensures entries { AddsAtMostOne seat (Self.entries self.old) (Self.entries self.new) }
         ensures marks { OnlyRises (risen result) (Self.marks self.old) (Self.marks self.new) }
-        ensures answer { IsAnswer leased complete parts (Self.origin self.old) seat (Self.entries self.old) (Self.entries self.new) result };
+        ensures answer { IsAnswer leased complete parts (Self.origin self.old) seat (Self.entries self.old)
+            (Self.entries self.new) result };
 
     /// Works a lease, and notes what is new in it.
     fn work(
@@ -84,12 +85,13 @@ pub trait Machine: Entries + Send + Drop {
         ensures notes { IsOutAfter suits leased noted setting.now lease notes.old notes.new }
         ensures work { IfOk result (worked setting.now lease) };
 
-    /// Takes back what was made of a lease, and tells the partition of which alone the mark may have risen. After want of
-    /// memory the machine is as before.
+    /// Takes back what was made of a lease, and tells the partition of which alone the mark may have risen. After want
+    /// of memory the machine is as before.
     fn give(&mut self, seat: u32, done: Self::Finished) -> Result<u32, NoMemory>
         requires { IsReturned suits leased worked (Self.origin self.old) seat (Self.entries self.old) done }
         ensures origin { Self.origin self.new ≡ Self.origin self.old }
         ensures entries { AddsAtMostOne seat (Self.entries self.old) (Self.entries self.new) }
         ensures marks { IfOk result (λ p. OnlyRises (Some p) (Self.marks self.old) (Self.marks self.new)) }
-        ensures refused { OnErr result ((Self.entries self.new ≡ Self.entries self.old) × (Self.marks self.new ≡ Self.marks self.old)) };
+        ensures refused { OnErr result ((Self.entries self.new ≡ Self.entries self.old)
+            × (Self.marks self.new ≡ Self.marks self.old)) };
 }

@@ -23,8 +23,8 @@ pub struct Outcome<M: Machine> {
     pub done: u32,
 }
 
-/// Puts a machine behind a turn, and has it run by `count` workers, 1 to 64, each in a thread of its own where one can be
-/// made. Answers the machine once all have ended. `NoMemory` comes where there is none for the yard and its seats.
+/// Puts a machine behind a turn, and has it run by `count` workers, 1 to 64, each in a thread of its own where one can
+/// be made. Answers the machine once all have ended. `NoMemory` comes where there is none for the yard and its seats.
 pub fn run_workers<R: Threads + Wait + Sync, M: Machine, G: Gate + Sync>(
     rt: &R,
     alloc: Global,
@@ -87,7 +87,8 @@ fn collected<M: Machine>(
 ) -> u32
     requires room { vec_len seats.old + vec_len workers ≤ vec_capacity seats.old }
     requires few { yard.now.made ≤ 64 }
-    requires ended { HaveEnded (M.complete yard.now.origin) yard.now (λ worker. worker.seat) (λ worker. worker.end) workers.items seats.old.items 0 }
+    requires ended { HaveEnded (M.complete yard.now.origin) yard.now (λ worker. worker.seat)
+        (λ worker. worker.end) workers.items seats.old.items 0 }
     ensures seats { AreAllSeats yard.now seats.new.items }
     ensures done { 0 < result → Any (λ seat. Was (M.complete yard.now.origin) seat.seen) seats.new.items }
     ensures at_most { result ≤ yard.now.made }

@@ -30,8 +30,8 @@ pub struct Worker<M: Machine> {
     pub end: Option<End>,
 }
 
-/// The loop of one worker: it asks for work under the turn, passes the gate and works without the turn, and gives the work
-/// back under the turn.
+/// The loop of one worker: it asks for work under the turn, passes the gate and works without the turn, and gives the
+/// work back under the turn.
 #[tactic(auto, using(crate::proofs::Later::later_on, crate::proofs::Later::later_same, crate::proofs::Later::was_first))]
 pub fn work<R: Wait, M: Machine, G: Gate>(
     rt: &R,
@@ -109,7 +109,9 @@ pub fn work_all<R: Threads + Wait + Sync, M: Machine + Send, G: Gate + Sync>(
     requires parts { yard.now.parts ≡ M.parts yard.now.origin }
     requires setting { M.suits setting.now yard.now.origin }
     ensures count { length workers.new ≡ length workers.old }
-    ensures each { (i : ℕ) (d : _) → i < length workers.old → HasWorked (M.complete yard.now.origin) yard.now (slice_index_or workers.old i d).seat (slice_index_or workers.new i d).seat (slice_index_or workers.new i d).end }
+    ensures each { (i : ℕ) (d : _) → i < length workers.old
+        → HasWorked (M.complete yard.now.origin) yard.now (slice_index_or workers.old i d).seat
+        (slice_index_or workers.new i d).seat (slice_index_or workers.new i d).end }
 {
     let threads = workers.len();
     thread::for_each_mut(
@@ -117,8 +119,10 @@ pub fn work_all<R: Threads + Wait + Sync, M: Machine + Send, G: Gate + Sync>(
         workers,
         threads,
         &|_, worker: &mut Worker<M>|
-            requires { IsBetweenTurns yard.now worker.old.seat × (yard.now.parts ≡ M.parts yard.now.origin) × M.suits setting.now yard.now.origin }
-            ensures { HasWorked (M.complete yard.entry.now.origin) yard.entry.now worker.old.seat worker.new.seat worker.new.end }
+            requires { IsBetweenTurns yard.now worker.old.seat × (yard.now.parts ≡ M.parts yard.now.origin)
+                × M.suits setting.now yard.now.origin }
+            ensures { HasWorked (M.complete yard.entry.now.origin) yard.entry.now worker.old.seat worker.new.seat
+                worker.new.end }
         { one(rt, yard, worker, setting, gate) },
     );
 }
