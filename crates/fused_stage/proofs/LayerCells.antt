@@ -90,17 +90,22 @@ own_is l (suc (suc zero)) at from j i u s e =
     zero-add _ ∙ same_number (widths l) (added (layer_box l 2 at).low j) (added (interior l).low i) (omega (arith, s.along1)) (omega (arith, s.along2)) (omega (arith, s.along3, e))
 own_is l (suc (suc (suc a))) at from j i u s e = absurd (omega arith)
 
--- the cell above its low face is the cell itself
+-- the cell above its low face is the cell itself, and so is the one below its high face
+itself : (axis : ℕ) (i : List ℕ) → axis < 3 → IsShifted axis 0 i i
+itself zero i u = record { along1 = omega arith; along2 = omega arith; along3 = omega arith }
+itself (suc zero) i u = record { along1 = omega arith; along2 = omega arith; along3 = omega arith }
+itself (suc (suc zero)) i u = record { along1 = omega arith; along2 = omega arith; along3 = omega arith }
+itself (suc (suc (suc a))) i u = absurd (omega arith)
+
 pub here_is : (l : Layout) (axis : ℕ) (cells i : List ℕ) → axis < 3 → donor_total l Above cells axis (face_beside i axis false) ≡ total_at l cells i
 here_is l axis cells i u =
-    let s = is_cell_of_itself axis i u in
+    let s = itself axis i u in
     ap (slice_index cells) (sym (beside_is l axis Above false (ghost_layers l axis) 0 i i u s (omega arith)) ∙ own_is l axis (ghost_layers l axis) 0 i i u s (omega arith))
-  where
-    is_cell_of_itself : (axis : ℕ) (i : List ℕ) → axis < 3 → IsShifted axis 0 i i
-    is_cell_of_itself zero i u = record { along1 = omega arith; along2 = omega arith; along3 = omega arith }
-    is_cell_of_itself (suc zero) i u = record { along1 = omega arith; along2 = omega arith; along3 = omega arith }
-    is_cell_of_itself (suc (suc zero)) i u = record { along1 = omega arith; along2 = omega arith; along3 = omega arith }
-    is_cell_of_itself (suc (suc (suc a))) i u = absurd (omega arith)
+
+pub here_below : (l : Layout) (axis : ℕ) (cells i : List ℕ) → axis < 3 → axis < l.dims → donor_total l Below cells axis (face_beside i axis true) ≡ total_at l cells i
+here_below l axis cells i u used =
+    let s = itself axis i u in
+    ap (slice_index cells) (sym (beside_is l axis Below true (ghost_layers l axis) 0 i i u s (omega (arith, two_layers l axis used))) ∙ own_is l axis (ghost_layers l axis) 0 i i u s (omega arith))
 
 -- the boxes of a pass over layers, whatever they are called
 pub record BoxesAre (l : Layout) (axis from depth : ℕ) (extents : List ℕ) (below here above : BoxIn) : Type 0 where

@@ -1,3 +1,5 @@
 pub mod Axes
 pub mod ClosedSides
+pub mod FittingRates
 pub mod LayerCells
+pub mod ListedFluxes

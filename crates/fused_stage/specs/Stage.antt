@@ -1,8 +1,8 @@
 -- A stage on the interior cells of a block from its cells and ghosts.
-use Rattle.std.specs.Prelude.{◌≡◌, ℕ, ◌+◌, ◌<◌, ◌≤◌, ◌^◌, Bool, List, All}
+use Rattle.std.specs.Prelude.{◌≡◌, ℕ, ◌+◌, ◌<◌, ◌≤◌, ◌^◌, Bool, List, length, All}
 use Rattle.block_layout.specs.declared.layout.Layout.{Layout}
-use Rattle.block_layout.specs.Sizes.{IsLayout}
 use Rattle.block_layout.specs.Indices.{IsWithin}
+use Rattle.block_layout.specs.Layouts.{len}
 use Rattle.upwind_fluxes.specs.declared.donor.Donor.{Donor}
 use Rattle.upwind_fluxes.specs.declared.donor.Donor.TheVariants.{Below, Above}
 use Rattle.upwind_fluxes.specs.declared.rates.LevelRates.{LevelRates}
@@ -36,5 +36,5 @@ FitTogether dims rates = sum_axes dims (λ axis. (along rates axis).right + (alo
 
 -- then a stage may be made of any totals below 2^62
 abbrev pub FittingRatesSuffice : Type 0
-FittingRatesSuffice = (l : Layout) (rates : LevelRates) (closed : List Bool) (cells : List ℕ) → IsLayout l.dims l.cells → AreProper rates → FitTogether l.dims rates → All (λ t. t < 2 ^ 62) cells
+FittingRatesSuffice = (l : Layout) (rates : LevelRates) (closed : List Bool) (cells : List ℕ) → length cells ≡ len l → AreProper rates → FitTogether l.dims rates → All (λ t. t < 2 ^ 62) cells
     → CanStage l rates closed cells
