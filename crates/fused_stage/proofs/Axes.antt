@@ -1,5 +1,5 @@
 -- Passes along one axis after the other.
-use Rattle.std.proofs.Common.{◌≡◌, ℕ, zero, suc, ◌+◌, ◌-◌, ◌<◌, ◌≤◌, ◌^◌, Bool, false, List, slice_index, sym, ◌∙◌, ap, subst, arith, refl, add-one}
+use Rattle.std.proofs.Common.{◌≡◌, ℕ, zero, suc, ◌+◌, ◌-◌, ◌<◌, ◌≤◌, ◌^◌, Bool, List, sym, ◌∙◌, ap, subst, arith, refl, add-one}
 use Rattle.block_layout.specs.declared.layout.Layout.{Layout}
 use Rattle.block_layout.specs.Sizes.{IsLayout}
 use Rattle.block_layout.specs.Indices.{IsWithin}
@@ -8,10 +8,9 @@ use Rattle.upwind_portions.specs.declared.fraction.Fraction.{Fraction}
 use Rattle.upwind_fluxes.specs.declared.donor.Donor.TheVariants.{Below, Above}
 use Rattle.upwind_fluxes.specs.declared.rates.LevelRates.{LevelRates}
 use Rattle.upwind_fluxes.specs.declared.multipliers.Multipliers.{Multipliers}
-use Rattle.upwind_fluxes.specs.Fluxes.{donor_total}
 use Rattle.upwind_fluxes.specs.Multipliers.{AreOf, fraction_at}
 use Rattle.upwind_fluxes.specs.Rates.{along, rate_of}
-use Rattle.transport_kernel.specs.Update.{GhostsStay, face_beside, gain, gain_along, loss, loss_along, sum_axes, total_at}
+use Rattle.transport_kernel.specs.Update.{GhostsStay, gain, gain_along, loss, loss_along, sum_axes, total_at}
 use Rattle.transport_kernel.proofs.Axes.{sum_grows}
 use Rattle.fused_stage.specs.Layers.{AxisPass, CanPassLayers, HasLayers, IsInLayers, after_axis, axis_pass}
 use Rattle.fused_stage.specs.Stage.{CanStage, IsStaged, flux_by}

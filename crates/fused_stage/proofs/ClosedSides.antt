@@ -1,5 +1,5 @@
 -- What passes the faces of a cell along an axis, where sides may be closed.
-use Rattle.std.proofs.Common.{◌≡◌, ◌==◌, ◌||◌, ◌&&◌, ◌⊎◌, ℕ, zero, suc, ◌+◌, ◌-◌, ◌*◌, ◌<◌, ◌≤◌, ◌^◌, Bool, true, false, cond, List, length, slice_index, sym, ◌∙◌, ap, subst, refl, arith, inl, inr, All}
+use Rattle.std.proofs.Common.{◌≡◌, ◌==◌, ◌||◌, ◌&&◌, ◌⊎◌, ℕ, zero, suc, ◌+◌, ◌-◌, ◌<◌, ◌≤◌, ◌^◌, Bool, true, false, cond, List, length, slice_index, sym, ◌∙◌, ap, subst, refl, arith, inl, inr, All}
 use Rattle.std.proofs.lemmas.Bool.{cases_lt}
 use Rattle.std.proofs.lemmas.Bool.Decides.{nat_tests}
 use Rattle.mesh_num.specs.Portion.{portion}
@@ -12,9 +12,9 @@ use Rattle.block_layout.proofs.InBlock.{two_layers}
 use Rattle.upwind_fluxes.specs.declared.donor.Donor.{Donor}
 use Rattle.upwind_fluxes.specs.declared.donor.Donor.TheVariants.{Below, Above}
 use Rattle.upwind_fluxes.specs.Beside.{beside_face}
-use Rattle.upwind_fluxes.specs.Fluxes.{donor_total, flux_at, is_closed, is_closed_side}
+use Rattle.upwind_fluxes.specs.Fluxes.{donor_total, is_closed, is_closed_side}
 use Rattle.transport_kernel.specs.Update.{face_beside, total_at}
-use Rattle.fused_stage.specs.Layers.{AxisPass, CanPassLayers, HasLayers, IsInLayers, after_axis, begun, beside_numbers, end_open, first_open, gained, lost, to_left, to_right}
+use Rattle.fused_stage.specs.Layers.{AxisPass, CanPassLayers, HasLayers, IsInLayers, after_axis, begun, end_open, first_open, gained, lost, to_left, to_right}
 
 pub wide : (l : Layout) (axis : ℕ) → IsLayout l.dims l.cells → axis < l.dims → 4 ≤ cells_along l axis
 wide l zero s u = s.cells1.wide u

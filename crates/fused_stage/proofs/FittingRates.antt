@@ -1,18 +1,16 @@
 -- Rates that are together at most their denominator.
-use Rattle.std.proofs.Common.{◌≡◌, ℕ, zero, suc, ◌+◌, ◌-◌, ◌*◌, ◌/◌, ◌<◌, ◌≤◌, ◌^◌, Bool, true, false, cond, List, slice_index, arith, refl, All}
+use Rattle.std.proofs.Common.{◌≡◌, ℕ, zero, suc, ◌+◌, ◌*◌, ◌<◌, ◌≤◌, ◌^◌, Bool, true, false, cond, List, arith, refl}
 use Rattle.std.proofs.Math.Nat.{div-mul-le_self, le_of_mul-le-mul_right, mul-le-mul_left, mul-le-mul_right}
 use Rattle.mesh_num.specs.Portion.{portion}
-use Rattle.block_layout.specs.declared.layout.Layout.{Layout}
 use Rattle.block_layout.specs.Indices.{IsWithin}
 use Rattle.upwind_fluxes.specs.declared.donor.Donor.{Donor}
 use Rattle.upwind_fluxes.specs.declared.donor.Donor.TheVariants.{Below, Above}
-use Rattle.upwind_fluxes.specs.declared.rates.LevelRates.{LevelRates}
-use Rattle.upwind_fluxes.specs.Fluxes.{donor_total, is_closed}
-use Rattle.upwind_fluxes.specs.Rates.{AreProper, along, rate_of}
+use Rattle.upwind_fluxes.specs.Fluxes.{donor_total}
+use Rattle.upwind_fluxes.specs.Rates.{along}
 use Rattle.transport_kernel.specs.Update.{face_beside, sum_axes, total_at}
 use Rattle.fused_stage.proofs.ClosedSides.{donor_bound}
 use Rattle.fused_stage.proofs.LayerCells.{here_below, here_is}
-use Rattle.fused_stage.specs.Stage.{CanStage, FitTogether, FittingRatesSuffice, flux_by}
+use Rattle.fused_stage.specs.Stage.{FittingRatesSuffice, flux_by}
 
 -- what passes a face is no more than the rate's part of a bound on the paying cell
 flux_most : (b : Bool) (q c d most : ℕ) → q ≤ most → cond b 0 (portion q c d) * d ≤ most * c

@@ -1,11 +1,10 @@
 -- Layers of cells along an axis, and the cells beside them.
-use Rattle.std.proofs.Common.{◌≡◌, ◌⊎◌, ℕ, zero, suc, ◌+◌, ◌-◌, ◌*◌, ◌<◌, ◌≤◌, Bool, true, false, cond, List, [], ◌∷◌, length, slice_index, sym, ◌∙◌, ap, subst, arith, inl, inr, zero-add}
+use Rattle.std.proofs.Common.{◌≡◌, ◌⊎◌, ℕ, zero, suc, ◌+◌, ◌-◌, ◌<◌, ◌≤◌, Bool, true, false, cond, List, [], ◌∷◌, slice_index, sym, ◌∙◌, ap, subst, arith, inl, inr, zero-add}
 use Rattle.block_layout.specs.declared.layout.Layout.{Layout}
 use Rattle.block_layout.specs.Sizes.{IsLayout}
 use Rattle.block_layout.specs.Indices.{IsWithin, added, index_of, number_of, with_along}
 use Rattle.block_layout.specs.Layouts.{cells_along, ghost_layers, len, place, widths}
 use Rattle.block_layout.specs.Regions.{interior}
-use Rattle.block_layout.specs.Laws.{IsSame}
 use Rattle.block_layout.proofs.Boxes.{number_index}
 use Rattle.block_layout.proofs.InBlock.{two_layers}
 use Rattle.cell_boxes.specs.declared.boxes.BoxIn.{BoxIn}
@@ -16,7 +15,7 @@ use Rattle.upwind_fluxes.specs.declared.donor.Donor.{Donor}
 use Rattle.upwind_fluxes.specs.declared.donor.Donor.TheVariants.{Below, Above}
 use Rattle.upwind_fluxes.specs.Beside.{beside_face, steps_below}
 use Rattle.upwind_fluxes.specs.Fluxes.{donor_total}
-use Rattle.transport_kernel.specs.Update.{GhostsStay, cell_place, face_beside, total_at}
+use Rattle.transport_kernel.specs.Update.{cell_place, face_beside, total_at}
 use Rattle.fused_stage.specs.Layers.{HasLayers, IsInLayers, TakesLayers, beside_numbers, layer_box, layer_extents}
 
 -- a cell is one of the layers from one on: its index among them, and among the interior cells

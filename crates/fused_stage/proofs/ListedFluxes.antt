@@ -1,5 +1,5 @@
 -- A stage by lists of what passes the faces.
-use Rattle.std.proofs.Common.{◌≡◌, ℕ, zero, suc, ◌+◌, ◌-◌, ◌<◌, ◌≤◌, ◌^◌, Bool, true, false, cond, List, slice_index, sym, ◌∙◌, ap, subst, arith, refl}
+use Rattle.std.proofs.Common.{◌≡◌, ℕ, zero, suc, ◌+◌, ◌-◌, ◌<◌, ◌≤◌, ◌^◌, Bool, true, false, cond, List, sym, subst, arith, refl}
 use Rattle.block_layout.specs.declared.layout.Layout.{Layout}
 use Rattle.block_layout.specs.Indices.{IsWithin}
 use Rattle.block_layout.specs.Faces.{face_extents}
@@ -7,8 +7,8 @@ use Rattle.upwind_fluxes.specs.declared.donor.Donor.{Donor}
 use Rattle.upwind_fluxes.specs.declared.donor.Donor.TheVariants.{Below, Above}
 use Rattle.upwind_fluxes.specs.declared.rates.LevelRates.{LevelRates}
 use Rattle.upwind_fluxes.specs.Fluxes.{AreFluxes}
-use Rattle.transport_kernel.specs.Update.{CanPass, HasPassed, face_beside, gain, gain_along, listed, loss, loss_along, sum_axes, total_at}
-use Rattle.fused_stage.specs.Stage.{CanStage, IsStaged, IsUpdateAfterFluxes, flux_by}
+use Rattle.transport_kernel.specs.Update.{face_beside, gain, listed, loss, sum_axes, total_at}
+use Rattle.fused_stage.specs.Stage.{IsUpdateAfterFluxes, flux_by}
 
 step_most : (high : Bool) (x n : ℕ) → x < n → x + cond high 1 0 < n + 1
 step_most true x n h = omega arith

@@ -45,7 +45,15 @@ pub fn stage(
         let right = multipliers.along(axis, Donor::Below);
         let left = multipliers.along(axis, Donor::Above);
         pass_along(
-            layout, axis, FromWritten, &right, &left, greatest, closed, cells, into,
+            layout,
+            axis,
+            FromWritten,
+            &right,
+            &left,
+            greatest,
+            closed,
+            cells,
+            into,
         );
     }
 }

@@ -31,9 +31,15 @@ fn pass_right<S: Start, P: Portions>(
     ensures { HasLayers (after_axis (axis_pass layout.now axis closed.now cells.now (S.begins start) (P.rate right) (P.denominator right) left.now.rate left.now.denominator)) layout.now axis 0 (cells_along layout.now axis) into.old into.new }
 {
     match left.tier(greatest) {
-        Tier::Nothing(portions) => pass_axis(layout, axis, start, right, portions, closed, cells, into),
-        Tier::Small(portions) => pass_axis(layout, axis, start, right, portions, closed, cells, into),
-        Tier::Word(portions) => pass_axis(layout, axis, start, right, portions, closed, cells, into),
+        Tier::Nothing(portions) => pass_axis(
+            layout, axis, start, right, portions, closed, cells, into,
+        ),
+        Tier::Small(portions) => pass_axis(
+            layout, axis, start, right, portions, closed, cells, into,
+        ),
+        Tier::Word(portions) => pass_axis(
+            layout, axis, start, right, portions, closed, cells, into,
+        ),
         Tier::Any(portions) => pass_axis(layout, axis, start, right, portions, closed, cells, into),
     }
 }
@@ -59,9 +65,17 @@ pub(crate) fn pass_along<S: Start>(
     ensures { HasLayers (after_axis (axis_pass layout.now axis closed.now cells.now (S.begins start) right.now.rate right.now.denominator left.now.rate left.now.denominator)) layout.now axis 0 (cells_along layout.now axis) into.old into.new }
 {
     match right.tier(greatest) {
-        Tier::Nothing(portions) => pass_right(layout, axis, start, portions, left, greatest, closed, cells, into),
-        Tier::Small(portions) => pass_right(layout, axis, start, portions, left, greatest, closed, cells, into),
-        Tier::Word(portions) => pass_right(layout, axis, start, portions, left, greatest, closed, cells, into),
-        Tier::Any(portions) => pass_right(layout, axis, start, portions, left, greatest, closed, cells, into),
+        Tier::Nothing(portions) => pass_right(
+            layout, axis, start, portions, left, greatest, closed, cells, into,
+        ),
+        Tier::Small(portions) => pass_right(
+            layout, axis, start, portions, left, greatest, closed, cells, into,
+        ),
+        Tier::Word(portions) => pass_right(
+            layout, axis, start, portions, left, greatest, closed, cells, into,
+        ),
+        Tier::Any(portions) => pass_right(
+            layout, axis, start, portions, left, greatest, closed, cells, into,
+        ),
     }
 }

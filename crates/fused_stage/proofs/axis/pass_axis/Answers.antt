@@ -1,8 +1,6 @@
-use Rattle.std.proofs.Common.{ℕ, ◌≡◌, ◌-◌, Bool, cond, true, false, inl, inr, refl, arith}
 use Rattle.block_layout.specs.Layouts.{cells_along}
-use Rattle.upwind_fluxes.specs.Fluxes.{is_closed_side}
 use Rattle.fused_stage.specs.Layers.{AxisPass, after_axis, axis_pass, end_open, first_open}
-use Rattle.fused_stage.proofs.ClosedSides.{first_before_end, fewer_layers, high_later, low_later, three_parts}
+use Rattle.fused_stage.proofs.ClosedSides.{first_before_end, high_later, low_later, three_parts}
 use Rattle.fused_stage.proofs.axis.pass_axis.Goals as goal
 
 pub pass_low-requires-clause-passes : goal.pass_low-requires-clause-passes

@@ -1,11 +1,10 @@
-use Rattle.std.proofs.Common.{ℕ, ◌≡◌, ◌≤◌, ◌-◌, ◌+◌, List, Bool, cond, true, false, slice_index, arith, refl, ap, sym, ◌∙◌}
+use Rattle.std.proofs.Common.{◌≡◌, ◌≤◌, ◌-◌, ◌+◌, Bool, cond, true, false, arith, ap, sym}
 use Rattle.upwind_fluxes.specs.declared.donor.Donor.TheVariants.{Below, Above}
-use Rattle.mesh_num.specs.Portion.{portion}
 use Rattle.block_layout.specs.Layouts.{cells_along, place}
 use Rattle.upwind_fluxes.specs.Beside.{beside_face}
 use Rattle.transport_kernel.specs.Update.{face_beside, total_at}
-use Rattle.fused_stage.specs.Layers.{AxisPass, after_axis, axis_pass, begun, end_open, first_open}
-use Rattle.fused_stage.proofs.ClosedSides.{cell_becomes, cell_pays, donor_bound, high_cell, layers_become, low_cell, moved_cell, moved_layers, open_cell, open_depth, wide}
+use Rattle.fused_stage.specs.Layers.{AxisPass, after_axis, axis_pass, begun, end_open}
+use Rattle.fused_stage.proofs.ClosedSides.{cell_becomes, cell_pays, donor_bound, high_cell, layers_become, moved_cell, moved_layers, wide}
 use Rattle.fused_stage.proofs.axis.pass_high.Goals as goal
 
 pub pass_layers-requires-clause-taken : goal.pass_layers-requires-clause-taken

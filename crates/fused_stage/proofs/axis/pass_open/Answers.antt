@@ -1,10 +1,8 @@
-use Rattle.std.proofs.Common.{ℕ, ◌≡◌, ◌≤◌, ◌-◌, ◌+◌, List, Bool, cond, true, false, slice_index, arith, refl, ap, sym, ◌∙◌}
+use Rattle.std.proofs.Common.{◌≤◌, true, false}
 use Rattle.upwind_fluxes.specs.declared.donor.Donor.TheVariants.{Below, Above}
-use Rattle.mesh_num.specs.Portion.{portion}
-use Rattle.block_layout.specs.Layouts.{cells_along}
 use Rattle.transport_kernel.specs.Update.{total_at}
 use Rattle.fused_stage.specs.Layers.{AxisPass, after_axis, axis_pass, begun, end_open, first_open}
-use Rattle.fused_stage.proofs.ClosedSides.{cell_becomes, cell_pays, donor_bound, high_cell, layers_become, low_cell, moved_cell, moved_layers, open_cell, open_depth, wide}
+use Rattle.fused_stage.proofs.ClosedSides.{cell_becomes, cell_pays, donor_bound, layers_become, moved_cell, moved_layers, open_cell, open_depth}
 use Rattle.fused_stage.proofs.axis.pass_open.Goals as goal
 
 pub pass_layers-requires-clause-taken : goal.pass_layers-requires-clause-taken

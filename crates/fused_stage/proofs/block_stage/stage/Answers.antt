@@ -1,4 +1,4 @@
-use Rattle.std.proofs.Common.{◌≡◌, ℕ, ◌<◌, ◌∙◌, arith, subst, sym}
+use Rattle.std.proofs.Common.{◌∙◌, arith, subst, sym}
 use Rattle.block_layout.specs.Layouts.{cells_along}
 use Rattle.fused_stage.specs.Layers.{AxisPass, CanPassLayers, HasLayers, after_axis}
 use Rattle.fused_stage.proofs.Axes.{all_staged, begun_staged, can_begin, can_go_on, one_more_axis, pass_is}

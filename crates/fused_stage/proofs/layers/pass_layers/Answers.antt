@@ -1,5 +1,4 @@
-use Rattle.std.proofs.Common.{length, arith}
-use Rattle.fused_stage.proofs.LayerCells.{has_layers, layers_done, layers_lie, taken_layers}
+use Rattle.fused_stage.proofs.LayerCells.{layers_done, taken_layers}
 use Rattle.fused_stage.proofs.layers.pass_layers.Goals as goal
 
 pub update_box-requires-clause-taken : goal.update_box-requires-clause-taken
