@@ -1,0 +1,4 @@
+pub mod Tables
+pub mod Zeros
+pub mod Letters
+pub mod Owners
