@@ -8,24 +8,25 @@ use Rattle.deck_values.specs.declared.fault.ProblemFault.{ProblemFault}
 use Rattle.problem_set.specs.declared.block_kinds.BlockNames.{BlockNames}
 use Rattle.deck_values.specs.Reading.{◌>>=◌}
 use Rattle.deck_values.specs.BlockNames.{names_within}
+use Rattle.problem_set.specs.Limits.{most_statics, most_boxes, most_reactions, most_criteria}
 
 -- static boxes are not read where nothing is refined
 unfoldable pub statics : Blocks → Mode → Result (List Text) ProblemFault
 statics d Plain = Ok []
-statics d Fixed = names_within d (codes "static") 256
-statics d Adaptive = names_within d (codes "static") 256
+statics d Fixed = names_within d (codes "static") most_statics
+statics d Adaptive = names_within d (codes "static") most_statics
 
 unfoldable pub boxes : Blocks → Result (List Text) ProblemFault
-boxes d = names_within d (codes "box") 4096
+boxes d = names_within d (codes "box") most_boxes
 
 unfoldable pub reactions : Blocks → Result (List Text) ProblemFault
-reactions d = names_within d (codes "reaction") 256
+reactions d = names_within d (codes "reaction") most_reactions
 
 -- criteria are read only where the mesh adapts
 unfoldable pub criteria : Blocks → Mode → Result (List Text) ProblemFault
 criteria d Plain = Ok []
 criteria d Fixed = Ok []
-criteria d Adaptive = names_within d (codes "criterion") 64
+criteria d Adaptive = names_within d (codes "criterion") most_criteria
 
 -- the names of the blocks of the four kinds that are counted, in the order of counting
 unfoldable pub block_names : Blocks → Mode → Result BlockNames ProblemFault

@@ -15,7 +15,7 @@ use Rattle.problem_set.specs.declared.mesh_part.Part.{Part}
 use Rattle.deck_values.specs.Reading.{◌>>=◌, only_if}
 use Rattle.deck_values.specs.BlockReader.{value_at, number}
 use Rattle.problem_set.specs.Words.{method_named}
-use Rattle.problem_set.specs.SoundEntries.{greatest_total}
+use Rattle.problem_set.specs.Limits.{greatest_factor, greatest_total}
 
 -- the first and the last cell of a part along an axis of so many cells: by default all cells
 unfoldable pub span_at : Blocks → Text → Text → Text → ℕ → Result (ℕ × ℕ) ProblemFault
@@ -68,7 +68,7 @@ unfoldable pub reaction : Blocks → List Field → Text → Result Reaction Pro
 reaction d fields block = do
   from ← label d fields block (codes "from")
   to ← other_label d fields block (codes "to") from
-  den ← number d block (codes "den") 1 1000000000 None
+  den ← number d block (codes "den") 1 greatest_factor None
   num ← number d block (codes "num") 0 den None
   Ok (record { from = from; to = to; num = num; den = den })
 

@@ -17,7 +17,7 @@ use Rattle.deck_values.specs.Reading.{◌>>=◌, or_fault}
 use Rattle.deck_values.specs.Numbers.{is_name}
 use Rattle.deck_values.specs.BlockReader.{value_at, number, signed, is_within}
 use Rattle.deck_values.specs.FlagsAndIds.{flags_of, ids_of}
-use Rattle.problem_set.specs.SoundEntries.{greatest_total}
+use Rattle.problem_set.specs.Limits.{greatest_factor, greatest_total}
 
 -- a name as it is, where it is one
 abbrev pub name_form : Text → Option Text
@@ -60,14 +60,14 @@ ids d block f =
     else absent_in block (codes "ids") (entry d block (codes "ids"))
 
 unfoldable pub speed : Blocks → Text → Text → Result ℤ ProblemFault
-speed d block key = signed d block key (is_within 1000000000) (Some (pos 0))
+speed d block key = signed d block key (is_within greatest_factor) (Some (pos 0))
 
 -- the order of the scheme that moves the field
 unfoldable pub order : Blocks → Text → Result ℕ ProblemFault
 order d block = number d block (codes "order") 1 2 (Some 1)
 
 unfoldable pub spread : Blocks → Text → Result ℕ ProblemFault
-spread d block = number d block (codes "k") 0 1000000000 (Some 0)
+spread d block = number d block (codes "k") 0 greatest_factor (Some 0)
 
 -- the amount outside of a face
 unfoldable pub entry_amount : Blocks → Text → Text → Result ℕ ProblemFault

@@ -12,6 +12,7 @@ use Rattle.problem_set.specs.declared.grid.Grid.{Grid}
 use Rattle.deck_values.specs.Reading.{◌>>=◌, only_if}
 use Rattle.deck_values.specs.BlockReader.{number}
 use Rattle.problem_set.specs.Mesh.{is_periodic}
+use Rattle.problem_set.specs.Limits.{least_cells, greatest_cells, greatest_roots}
 
 -- the name of the block
 unfoldable pub meshblock : Text
@@ -20,7 +21,7 @@ meshblock = codes "parthenon/meshblock"
 -- the cells of a block along an axis: even, and a divisor of the cells of the mesh
 unfoldable pub cells_along : Blocks → Text → ℕ → Result ℕ ProblemFault
 cells_along d key size = do
-  n ← number d meshblock key 4 64 (Some size)
+  n ← number d meshblock key least_cells greatest_cells (Some size)
   only_if (n % 2 == 0 && size % n == 0) n (BadValue meshblock key)
 
 -- the same, and 1 along an axis that is not in use
@@ -63,4 +64,4 @@ root_blocks size cells = roots_along size cells 0 * roots_along size cells 1 * r
 unfoldable pub grid : Blocks → List ℕ → List FaceKind → Result Grid ProblemFault
 grid d size faces = do
   c ← cells d size
-  only_if (nat_le (root_blocks size c) 65536) (record { shape = shape_of size c faces; cells = c }) (Limit meshblock (codes "blocks") (pos (root_blocks size c)))
+  only_if (nat_le (root_blocks size c) greatest_roots) (record { shape = shape_of size c faces; cells = c }) (Limit meshblock (codes "blocks") (pos (root_blocks size c)))

@@ -13,33 +13,34 @@ use Rattle.problem_set.specs.declared.mesh.Mesh.{Mesh}
 use Rattle.deck_values.specs.Reading.{◌>>=◌, only_if}
 use Rattle.deck_values.specs.BlockReader.{value_at, number, number_or_one, signed}
 use Rattle.problem_set.specs.Words.{mode_named, face_kind_named}
+use Rattle.problem_set.specs.Limits.{least_cells, greatest_size, greatest_levels, greatest_derefine_count, greatest_pack}
 
 -- the name of the block
 unfoldable pub mesh : Text
 mesh = codes "parthenon/mesh"
 
 unfoldable pub size1 : Blocks → Result ℕ ProblemFault
-size1 d = number d mesh (codes "nx1") 4 4194304 None
+size1 d = number d mesh (codes "nx1") least_cells greatest_size None
 
 unfoldable pub size2 : Blocks → Result ℕ ProblemFault
-size2 d = number_or_one d mesh (codes "nx2") 4 4194304 (Some 1)
+size2 d = number_or_one d mesh (codes "nx2") least_cells greatest_size (Some 1)
 
 -- a mesh with one layer of cells along x2 has one along x3 too
 unfoldable pub size3 : Blocks → ℕ → Result ℕ ProblemFault
-size3 d n2 = if n2 == 1 then number d mesh (codes "nx3") 1 1 (Some 1) else number_or_one d mesh (codes "nx3") 4 4194304 (Some 1)
+size3 d n2 = if n2 == 1 then number d mesh (codes "nx3") 1 1 (Some 1) else number_or_one d mesh (codes "nx3") least_cells greatest_size (Some 1)
 
 unfoldable pub refinement : Blocks → Result Mode ProblemFault
 refinement d = value_at mode_named d mesh (codes "refinement") (Some Plain)
 
 unfoldable pub numlevel : Blocks → Result ℕ ProblemFault
-numlevel d = number d mesh (codes "numlevel") 1 11 (Some 1)
+numlevel d = number d mesh (codes "numlevel") 1 greatest_levels (Some 1)
 
 unfoldable pub derefine_count : Blocks → Result ℕ ProblemFault
-derefine_count d = number d mesh (codes "derefine_count") 1 1000 (Some 10)
+derefine_count d = number d mesh (codes "derefine_count") 1 greatest_derefine_count (Some 10)
 
 -- -1, or 1 to 65,536
 abbrev pub is_pack_size : ℤ → Bool
-is_pack_size (pos n) = nat_le 1 n && nat_le n 65536
+is_pack_size (pos n) = nat_le 1 n && nat_le n greatest_pack
 is_pack_size (negsuc n) = n == 0
 
 -- the leaves of a partition, none for -1, where all leaves are in one

@@ -1,4 +1,5 @@
 -- What holds of the blocks of a problem that come in any number.
+pub use Rattle.problem_set.specs.Limits.{greatest_total}
 use Rattle.std.specs.Prelude.{◌≡◌, ◌≢◌, ◌≤◌, ◌<◌, ◌-◌, ◌*◌, ℕ, ℤ, pos, List, length, slice_index, All, unsigned_abs}
 use Rattle.std.specs.List.{slice_index_or, zip}
 use Rattle.package_fields.specs.Fields.{Registered, IsSound}
@@ -10,24 +11,21 @@ use Rattle.problem_set.specs.declared.problem_items.Reaction.{Reaction}
 use Rattle.problem_set.specs.declared.problem_items.Criterion.{Criterion}
 use Rattle.problem_set.specs.Rates.{rate_sum, bound}
 use Rattle.problem_set.specs.declared.words.FaceKind.{FaceKind}
-
--- a total, or an amount, is at most this
-abbrev pub greatest_total : ℕ
-greatest_total = 4611686018427387903
+use Rattle.problem_set.specs.Limits.{greatest_factor, most_statics, most_boxes, most_reactions, most_criteria}
 
 -- velocities along the axes, each of at most a milliard
 pub record IsSlow (v : List ℤ) : Type 0 where
   pub three : length v ≡ 3
-  pub speed1 : unsigned_abs (slice_index_or v 0 (pos 0)) ≤ 1000000000
-  pub speed2 : unsigned_abs (slice_index_or v 1 (pos 0)) ≤ 1000000000
-  pub speed3 : unsigned_abs (slice_index_or v 2 (pos 0)) ≤ 1000000000
+  pub speed1 : unsigned_abs (slice_index_or v 0 (pos 0)) ≤ greatest_factor
+  pub speed2 : unsigned_abs (slice_index_or v 1 (pos 0)) ≤ greatest_factor
+  pub speed3 : unsigned_abs (slice_index_or v 2 (pos 0)) ≤ greatest_factor
 
 -- how a field moves: velocities and coefficients of at most a milliard, by a scheme of order 1 or 2, amounts of
 -- at most the greatest total
 pub record IsMoves (m : Moves) : Type 0 where
   pub slow : IsSlow m.v
   pub six : length m.entry ≡ 6
-  pub spread : m.k ≤ 1000000000
+  pub spread : m.k ≤ greatest_factor
   pub least_order : 1 ≤ m.order
   pub most_order : m.order ≤ 2
   pub amounts : All (λ amount. amount ≤ greatest_total) m.entry
@@ -60,7 +58,7 @@ pub record IsReaction (fields : ℕ) (r : Reaction) : Type 0 where
   pub to : r.to < fields
   pub differ : r.from ≢ r.to
   pub least : 1 ≤ r.den
-  pub most : r.den ≤ 1000000000
+  pub most : r.den ≤ greatest_factor
   pub portion : r.num ≤ r.den
 
 pub record IsCriterion (levels fields : ℕ) (c : Criterion) : Type 0 where
@@ -77,10 +75,10 @@ pub record AreFields (fields : Registered) (moves : List Moves) : Type 0 where
 
 -- the blocks of the kinds that come in any number
 pub record AreEntries (size : List ℕ) (levels fields : ℕ) (statics : List StaticAt) (boxes : List StartBox) (reactions : List Reaction) (criteria : List Criterion) : Type 0 where
-  pub few_statics : length statics ≤ 256
-  pub few_boxes : length boxes ≤ 4096
-  pub few_reactions : length reactions ≤ 256
-  pub few_criteria : length criteria ≤ 64
+  pub few_statics : length statics ≤ most_statics
+  pub few_boxes : length boxes ≤ most_boxes
+  pub few_reactions : length reactions ≤ most_reactions
+  pub few_criteria : length criteria ≤ most_criteria
   pub statics_sound : All (IsStatic size levels) statics
   pub boxes_sound : All (IsBox size fields) boxes
   pub reactions_sound : All (IsReaction fields) reactions

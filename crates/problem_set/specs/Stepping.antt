@@ -8,7 +8,7 @@ use Rattle.problem_set.specs.declared.stepping.CycleSettings.{CycleSettings}
 use Rattle.problem_set.specs.declared.stepping.Stepping.{Stepping}
 use Rattle.deck_values.specs.Reading.{◌>>=◌}
 use Rattle.deck_values.specs.BlockReader.{number}
-use Rattle.problem_set.specs.SoundEntries.{greatest_total}
+use Rattle.problem_set.specs.Limits.{greatest_cycles, greatest_factor, greatest_stages, greatest_total}
 
 -- the names of the blocks
 unfoldable pub time : Text
@@ -21,7 +21,7 @@ unfoldable pub whole : Text
 whole = codes "whole"
 
 unfoldable pub nlim : Blocks → Result ℕ ProblemFault
-nlim d = number d time (codes "nlim") 0 65535 None
+nlim d = number d time (codes "nlim") 0 greatest_cycles None
 
 unfoldable pub alloc_threshold : Blocks → Result ℕ ProblemFault
 alloc_threshold d = number d sparse (codes "alloc_threshold") 0 greatest_total (Some 0)
@@ -30,19 +30,19 @@ unfoldable pub dealloc_threshold : Blocks → Result ℕ ProblemFault
 dealloc_threshold d = number d sparse (codes "dealloc_threshold") 0 greatest_total (Some 0)
 
 unfoldable pub dealloc_count : Blocks → Result ℕ ProblemFault
-dealloc_count d = number d sparse (codes "dealloc_count") 1 65535 (Some 5)
+dealloc_count d = number d sparse (codes "dealloc_count") 1 greatest_cycles (Some 5)
 
 unfoldable pub denominator : Blocks → Result ℕ ProblemFault
-denominator d = number d whole (codes "denominator") 1 1000000000 (Some 1000)
+denominator d = number d whole (codes "denominator") 1 greatest_factor (Some 1000)
 
 unfoldable pub nstages : Blocks → Result ℕ ProblemFault
-nstages d = number d whole (codes "nstages") 1 4 (Some 1)
+nstages d = number d whole (codes "nstages") 1 greatest_stages (Some 1)
 
 unfoldable pub refine_every : Blocks → Result ℕ ProblemFault
-refine_every d = number d whole (codes "refine_every") 1 65535 (Some 1)
+refine_every d = number d whole (codes "refine_every") 1 greatest_cycles (Some 1)
 
 unfoldable pub dump_every : Blocks → Result ℕ ProblemFault
-dump_every d = number d whole (codes "dump_every") 1 65535 (Some 10)
+dump_every d = number d whole (codes "dump_every") 1 greatest_cycles (Some 10)
 
 -- when sparse fields are allocated and freed
 unfoldable pub sparsity : Blocks → Result Sparsity ProblemFault

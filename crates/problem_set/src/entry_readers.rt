@@ -5,7 +5,9 @@ ghost use Rattle.deck_values.specs.Reading.{Gives};
 ghost use Rattle.problem_set.specs.EntryReaders.{static_at, start_box, reaction, method, tolerances, criterion};
 ghost use Rattle.problem_set.specs.Sound.{IsSize};
 ghost use Rattle.problem_set.specs.SoundEntries.{IsStatic, IsBox, IsReaction, IsCriterion, greatest_total};
+ghost use Rattle.problem_set.specs.Limits.{greatest_levels};
 
+use crate::limits::GREATEST_FACTOR;
 use crate::mesh_part::{
     Part, read_amount, read_label, read_lower_amount, read_other_label, read_part,
 };
@@ -21,7 +23,7 @@ pub struct StaticForm {
     pub levels: u32,
     pub ghost size_sound: { IsSize size },
     pub ghost least: { 1 ≤ levels },
-    pub ghost most: { levels ≤ 11 },
+    pub ghost most: { levels ≤ greatest_levels },
 }
 
 impl BlockForm for StaticForm {
@@ -80,7 +82,7 @@ pub struct CriterionForm<'a> {
     pub levels: u32,
     pub fields: &'a Registry,
     pub ghost least: { 1 ≤ levels },
-    pub ghost most: { levels ≤ 11 },
+    pub ghost most: { levels ≤ greatest_levels },
 }
 
 impl<'a> BlockForm for CriterionForm<'a> {
@@ -100,7 +102,7 @@ impl<'a> BlockForm for CriterionForm<'a> {
 fn read_static(block: &BlockReader, size: [u32; 3], levels: u32) -> Result<StaticAt, ProblemFault>
     requires size { IsSize size }
     requires levels { 1 ≤ levels }
-    requires most { levels ≤ 11 }
+    requires most { levels ≤ greatest_levels }
     ensures value { Gives result (static_at block.now.deck.now size levels block.now.block.now) }
     ensures sound { IfOk result (IsStatic size levels) }
 {
@@ -140,7 +142,7 @@ fn read_reaction(block: &BlockReader, fields: &Registry) -> Result<Reaction, Pro
 {
     let from = read_label(block, fields, "from")?;
     let to = read_other_label(block, fields, "to", from)?;
-    let den = block.number("den", 1, 1_000_000_000, None)?;
+    let den = block.number("den", 1, GREATEST_FACTOR, None)?;
     let num = block.number("num", 0, den, None)?;
     Ok(Reaction { from, to, num, den })
 }
@@ -153,7 +155,7 @@ fn read_criterion(
     fields: &Registry,
 ) -> Result<Criterion, ProblemFault>
     requires levels { 1 ≤ levels }
-    requires most { levels ≤ 11 }
+    requires most { levels ≤ greatest_levels }
     ensures value { Gives result (criterion block.now.deck.now levels fields.now.fields block.now.block.now) }
     ensures sound { IfOk result (IsCriterion levels (length fields.now.fields)) }
 {

@@ -6,8 +6,9 @@ ghost use Rattle.deck_values.specs.Reading.{Gives};
 ghost use Rattle.problem_set.specs.FieldBlocks.{behind_field, field_name, default_flags, package_name, flags, ids, flags_and_ids, speed, spread, order, entry_amount};
 ghost use Rattle.problem_set.specs.FieldBlocks.{speeds, entry_pair, entry_amounts, moves, field_block};
 ghost use Rattle.problem_set.specs.SoundEntries.{IsMoves, IsSlow, greatest_total};
+ghost use Rattle.problem_set.specs.Limits.{greatest_factor};
 
-use crate::mesh_part::GREATEST_TOTAL;
+use crate::limits::{GREATEST_FACTOR, GREATEST_TOTAL};
 use crate::problem_items::Moves;
 use deck_values::{BlockReader, ProblemFault, flags_of, ids_of, is_name};
 use package_fields::{FieldFault, Flag, Flags, Items, Name, has_flag};
@@ -171,10 +172,10 @@ fn read_speeds(block: &BlockReader) -> Result<[i64; 3], ProblemFault>
 #[tactic(auto, unfolding(crate::specs::FieldBlocks::speed, deck_values::specs::BlockReader::signed))]
 fn read_speed(block: &BlockReader, key: &str) -> Result<i64, ProblemFault>
     ensures value { Gives result (speed block.now.deck.now block.now.block.now key.now) }
-    ensures slow { IfOk result (λ v. unsigned_abs v ≤ 1000000000) }
+    ensures slow { IfOk result (λ v. unsigned_abs v ≤ greatest_factor) }
 {
     let v = block.signed_at(key, 0)?;
-    if v.unsigned_abs() <= 1_000_000_000 {
+    if v.unsigned_abs() <= u128::from(GREATEST_FACTOR) {
         Ok(v as i64)
     } else {
         Err(block.limit(key, v))
@@ -184,9 +185,9 @@ fn read_speed(block: &BlockReader, key: &str) -> Result<i64, ProblemFault>
 #[tactic(auto, unfolding(crate::specs::FieldBlocks::spread))]
 fn read_spread(block: &BlockReader) -> Result<u64, ProblemFault>
     ensures value { Gives result (spread block.now.deck.now block.now.block.now) }
-    ensures most { IfOk result (λ k. k ≤ 1000000000) }
+    ensures most { IfOk result (λ k. k ≤ greatest_factor) }
 {
-    block.number("k", 0, 1_000_000_000, Some(0))
+    block.number("k", 0, GREATEST_FACTOR, Some(0))
 }
 
 /// The order of the scheme that moves the field.

@@ -5,6 +5,7 @@ ghost use Rattle.std.specs.List.{slice_index_or, range_with_len};
 ghost use Rattle.problem_set.specs.Rates.{cells_of, face_cells, is_inflow, face_inflow, field_inflow, stage_inflow, span, box_total};
 ghost use Rattle.problem_set.specs.Sound.{IsSize, IsFaces};
 ghost use Rattle.problem_set.specs.SoundEntries.{IsMoves, IsBox};
+ghost use Rattle.problem_set.specs.Limits.{greatest_size, most_boxes};
 
 use crate::problem_items::{Moves, StartBox};
 use crate::rates::{field_at, moves_at};
@@ -17,9 +18,9 @@ fn span(lo: [u32; 3], hi: [u32; 3], axis: u32) -> u128
     requires lo { length lo ≡ 3 }
     requires hi { length hi ≡ 3 }
     requires ordered { slice_index lo axis ≤ slice_index hi axis }
-    requires within { slice_index hi axis < 4194304 }
+    requires within { slice_index hi axis < greatest_size }
     ensures value { result ≡ span lo hi axis }
-    ensures most { result ≤ 4194304 }
+    ensures most { result ≤ greatest_size }
 {
     u128::from(hi[axis as usize] + 1 - lo[axis as usize])
 }
@@ -41,7 +42,7 @@ fn box_total(size: [u32; 3], start: &StartBox, fields: usize) -> u128
 pub fn boxes_total(size: [u32; 3], boxes: &[StartBox], fields: usize) -> u128
     requires size { IsSize size }
     requires few_cells { cells_of size ≤ 2 ^ 34 }
-    requires few { length boxes.now ≤ 4096 }
+    requires few { length boxes.now ≤ most_boxes }
     requires sound { All (IsBox size fields) boxes.now }
     ensures value { result ≡ sum_by box_total boxes.now }
     ensures most { result ≤ 2 ^ 108 }

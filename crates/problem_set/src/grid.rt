@@ -7,7 +7,9 @@ ghost use Rattle.problem_set.specs.Mesh.{is_periodic};
 ghost use Rattle.std.specs.List.{slice_index_or};
 ghost use Rattle.problem_set.specs.Sound.{IsSize, IsFaces};
 ghost use Rattle.problem_set.specs.Sound.{IsCellsAlong, IsCells, IsGrid};
+ghost use Rattle.problem_set.specs.Limits.{greatest_size};
 
+use crate::limits::{GREATEST_CELLS, GREATEST_ROOTS, LEAST_CELLS};
 use crate::words::{FaceKind, Faces};
 use deck_values::{BlockReader, ProblemFault};
 use input_file::Deck;
@@ -37,7 +39,7 @@ pub fn read_grid(
     let meshblock = meshblock_reader(alloc, deck);
     let cells = read_cells(&meshblock, size)?;
     let blocks = root_blocks(size, cells);
-    if blocks > 65536 {
+    if blocks > GREATEST_ROOTS {
         return Err(meshblock.limit("blocks", i128::from(blocks)));
     }
     Ok(Grid {
@@ -74,7 +76,7 @@ fn read_cells_along(meshblock: &BlockReader, key: &str, size: u32) -> Result<u32
     ensures value { Gives result (cells_along meshblock.now.deck.now key.now size) }
     ensures sound { IfOk result (IsCellsAlong size) }
 {
-    let n = meshblock.number(key, 4, 64, Some(u64::from(size)))? as u32;
+    let n = meshblock.number(key, LEAST_CELLS, GREATEST_CELLS, Some(u64::from(size)))? as u32;
     if n % 2 == 0 && size % n == 0 {
         Ok(n)
     } else {
@@ -108,7 +110,7 @@ fn root_blocks(size: [u32; 3], cells: [u32; 3]) -> u64
 
 /// How many root blocks lie along an axis.
 fn roots_along(size: u32, cells: u32) -> u64
-    requires most { size ≤ 4194304 }
+    requires most { size ≤ greatest_size }
     requires cells { IsCellsAlong size cells }
     ensures value { result ≡ size / cells }
     ensures few { result ≤ 1048576 }

@@ -14,6 +14,7 @@ mod field_blocks;
 mod field_form;
 mod fitting;
 mod grid;
+mod limits;
 mod mesh;
 mod mesh_part;
 mod package_blocks;

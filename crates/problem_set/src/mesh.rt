@@ -8,7 +8,9 @@ ghost use Rattle.problem_set.specs.Mesh.{derefine_count, pack_size};
 ghost use Rattle.problem_set.specs.Mesh.{face, face_pair, faces};
 ghost use Rattle.problem_set.specs.Mesh.{size, refining, mesh_keys, levels_in, is_periodic};
 ghost use Rattle.problem_set.specs.Sound.{IsSize, IsRefining, IsFaces};
+ghost use Rattle.problem_set.specs.Limits.{greatest_size, least_cells, greatest_levels, greatest_derefine_count, greatest_pack};
 
+use crate::limits::{GREATEST_DEREFINE_COUNT, GREATEST_LEVELS, GREATEST_SIZE, LEAST_CELLS};
 use crate::words::{FaceKind, Faces, Mode};
 use deck_values::{BlockReader, ProblemFault};
 use input_file::Deck;
@@ -75,10 +77,10 @@ fn read_size(mesh: &BlockReader) -> Result<[u32; 3], ProblemFault>
 fn read_size1(mesh: &BlockReader) -> Result<u32, ProblemFault>
     requires { mesh.now.block.now ≡ mesh_block }
     ensures value { Gives result (size1 mesh.now.deck.now) }
-    ensures least { IfOk result (λ n. 4 ≤ n) }
-    ensures greatest { IfOk result (λ n. n ≤ 4194304) }
+    ensures least { IfOk result (λ n. least_cells ≤ n) }
+    ensures greatest { IfOk result (λ n. n ≤ greatest_size) }
 {
-    let n = mesh.number("nx1", 4, 4_194_304, None)?;
+    let n = mesh.number("nx1", LEAST_CELLS, GREATEST_SIZE, None)?;
     Ok(n as u32)
 }
 
@@ -87,10 +89,10 @@ fn read_size2(mesh: &BlockReader) -> Result<u32, ProblemFault>
     requires { mesh.now.block.now ≡ mesh_block }
     ensures value { Gives result (size2 mesh.now.deck.now) }
     ensures least { IfOk result (λ n. 1 ≤ n) }
-    ensures used { IfOk result (λ n. 2 ≤ n → 4 ≤ n) }
-    ensures greatest { IfOk result (λ n. n ≤ 4194304) }
+    ensures used { IfOk result (λ n. 2 ≤ n → least_cells ≤ n) }
+    ensures greatest { IfOk result (λ n. n ≤ greatest_size) }
 {
-    let n = mesh.number_or_one("nx2", 4, 4_194_304, Some(1))?;
+    let n = mesh.number_or_one("nx2", LEAST_CELLS, GREATEST_SIZE, Some(1))?;
     Ok(n as u32)
 }
 
@@ -99,15 +101,15 @@ fn read_size3(mesh: &BlockReader, n2: u32) -> Result<u32, ProblemFault>
     requires { mesh.now.block.now ≡ mesh_block }
     ensures value { Gives result (size3 mesh.now.deck.now n2) }
     ensures least { IfOk result (λ n. 1 ≤ n) }
-    ensures used { IfOk result (λ n. 2 ≤ n → 4 ≤ n) }
-    ensures greatest { IfOk result (λ n. n ≤ 4194304) }
+    ensures used { IfOk result (λ n. 2 ≤ n → least_cells ≤ n) }
+    ensures greatest { IfOk result (λ n. n ≤ greatest_size) }
     ensures flat { IfOk result (λ n. n2 ≡ 1 → n ≡ 1) }
 {
     if n2 == 1 {
         let n = mesh.number("nx3", 1, 1, Some(1))?;
         Ok(n as u32)
     } else {
-        let n = mesh.number_or_one("nx3", 4, 4_194_304, Some(1))?;
+        let n = mesh.number_or_one("nx3", LEAST_CELLS, GREATEST_SIZE, Some(1))?;
         Ok(n as u32)
     }
 }
@@ -160,9 +162,9 @@ fn read_numlevel(mesh: &BlockReader) -> Result<u32, ProblemFault>
     requires { mesh.now.block.now ≡ mesh_block }
     ensures value { Gives result (numlevel mesh.now.deck.now) }
     ensures least { IfOk result (λ n. 1 ≤ n) }
-    ensures greatest { IfOk result (λ n. n ≤ 11) }
+    ensures greatest { IfOk result (λ n. n ≤ greatest_levels) }
 {
-    let n = mesh.number("numlevel", 1, 11, Some(1))?;
+    let n = mesh.number("numlevel", 1, GREATEST_LEVELS, Some(1))?;
     Ok(n as u32)
 }
 
@@ -171,9 +173,9 @@ fn read_derefine_count(mesh: &BlockReader) -> Result<u32, ProblemFault>
     requires { mesh.now.block.now ≡ mesh_block }
     ensures value { Gives result (derefine_count mesh.now.deck.now) }
     ensures least { IfOk result (λ n. 1 ≤ n) }
-    ensures greatest { IfOk result (λ n. n ≤ 1000) }
+    ensures greatest { IfOk result (λ n. n ≤ greatest_derefine_count) }
 {
-    let n = mesh.number("derefine_count", 1, 1000, Some(10))?;
+    let n = mesh.number("derefine_count", 1, GREATEST_DEREFINE_COUNT, Some(10))?;
     Ok(n as u32)
 }
 
@@ -181,7 +183,7 @@ fn read_derefine_count(mesh: &BlockReader) -> Result<u32, ProblemFault>
 fn read_pack_size(mesh: &BlockReader) -> Result<Option<u32>, ProblemFault>
     requires { mesh.now.block.now ≡ mesh_block }
     ensures value { Gives result (pack_size mesh.now.deck.now) }
-    ensures within { IfOk result (λ pack. IfSome pack (λ n. (1 ≤ n) × (n ≤ 65536))) }
+    ensures within { IfOk result (λ pack. IfSome pack (λ n. (1 ≤ n) × (n ≤ greatest_pack))) }
 {
     let n = mesh.signed_at("pack_size", 16)?;
     match n {

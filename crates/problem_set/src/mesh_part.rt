@@ -6,11 +6,9 @@ ghost use Rattle.problem_set.specs.EntryReaders.{span_at, part, label, other_lab
 ghost use Rattle.problem_set.specs.Sound.{IsSize};
 ghost use Rattle.problem_set.specs.SoundEntries.{IsPart, greatest_total};
 
+use crate::limits::GREATEST_TOTAL;
 use deck_values::{BlockReader, ProblemFault};
 use package_fields::Registry;
-
-/// The greatest total, and the greatest amount that a deck may name.
-pub const GREATEST_TOTAL: u64 = 4_611_686_018_427_387_903;
 
 /// A part of the mesh, in root cells with both ends included.
 #[derive(Clone, Copy)]

@@ -8,6 +8,7 @@ ghost use Rattle.deck_values.specs.declared.fault.ProblemFault.TheVariants.{NoMe
 ghost use Rattle.problem_set.specs.Rates.{upwards, downwards, velocity, right_rate, left_rate, rate_sum};
 ghost use Rattle.problem_set.specs.Fitting.{sum_fits, rates_fit};
 ghost use Rattle.problem_set.specs.SoundEntries.{IsMoves};
+ghost use Rattle.problem_set.specs.Limits.{greatest_factor};
 
 use crate::problem_items::Moves;
 use deck_values::ProblemFault;
@@ -114,7 +115,7 @@ pub fn moves_at(moves: &[Moves], i: usize) -> Moves
 /// half as much again as it holds.
 fn sum_fits(order: u32, sum: u64, denominator: u64) -> bool
     requires sum { sum ≤ 12000000000000000 }
-    requires denominator { denominator ≤ 1000000000 }
+    requires denominator { denominator ≤ greatest_factor }
     ensures { result ≡ sum_fits order sum denominator }
 {
     if order == 2 {
@@ -135,7 +136,7 @@ pub fn check_rates(
 ) -> Result<(), ProblemFault>
     requires dims { dims ≤ 3 }
     requires level { level ≤ 10 }
-    requires denominator { denominator ≤ 1000000000 }
+    requires denominator { denominator ≤ greatest_factor }
     requires as_many { length moves.now ≡ length fields.now }
     requires sound { All IsMoves moves.now }
     ensures { Gives result (rates_fit dims level denominator (zip fields.now moves.now)) }
@@ -164,7 +165,7 @@ fn check_field(
 ) -> Result<(), ProblemFault>
     requires dims { dims ≤ 3 }
     requires level { level ≤ 10 }
-    requires denominator { denominator ≤ 1000000000 }
+    requires denominator { denominator ≤ greatest_factor }
     requires sound { IsMoves moves }
     ensures ok { OnOk result (sum_fits moves.order (rate_sum dims level field.now moves) denominator ≡ true) }
     ensures fault { IfErr result (λ fault. (fault ≡ no_memory) ⊎ ((sum_fits moves.order (rate_sum dims level field.now moves) denominator ≡ false) × (fault ≡ ProblemFault.Rates field.now.label (rate_sum dims level field.now moves)))) }

@@ -5,6 +5,7 @@ ghost use Rattle.deck_values.specs.Reading.{Gives};
 ghost use Rattle.problem_set.specs.RepeatedBlocks.{counted_blocks, repeated_blocks};
 ghost use Rattle.problem_set.specs.Sound.{IsSize};
 ghost use Rattle.problem_set.specs.SoundEntries.{IsMoves, AreEntries};
+ghost use Rattle.problem_set.specs.Limits.{greatest_levels, most_statics, most_boxes, most_reactions, most_criteria};
 
 use crate::block_kinds::{BlockNames, find_blocks};
 use crate::entry_readers::{BoxForm, CriterionForm, ReactionForm, StaticForm};
@@ -43,7 +44,7 @@ pub fn read_repeated_blocks(
 ) -> Result<RepeatedBlocks, ProblemFault>
     requires size { IsSize size }
     requires least { 1 ≤ levels }
-    requires most { levels ≤ 11 }
+    requires most { levels ≤ greatest_levels }
     ensures value { Gives result (repeated_blocks deck.now size mode levels) }
     ensures as_many { IfOk result (λ c. length c.field_table.moves ≡ length c.field_table.fields.fields) }
     ensures sound { IfOk result (λ c. All IsMoves c.field_table.moves) }
@@ -70,11 +71,11 @@ fn read_counted_blocks(
 ) -> Result<CountedBlocks, ProblemFault>
     requires size { IsSize size }
     requires least { 1 ≤ levels }
-    requires most { levels ≤ 11 }
-    requires few_statics { length names.now.statics ≤ 256 }
-    requires few_boxes { length names.now.boxes ≤ 4096 }
-    requires few_reactions { length names.now.reactions ≤ 256 }
-    requires few_criteria { length names.now.criteria ≤ 64 }
+    requires most { levels ≤ greatest_levels }
+    requires few_statics { length names.now.statics ≤ most_statics }
+    requires few_boxes { length names.now.boxes ≤ most_boxes }
+    requires few_reactions { length names.now.reactions ≤ most_reactions }
+    requires few_criteria { length names.now.criteria ≤ most_criteria }
     ensures value { Gives result (counted_blocks deck.now size levels fields.now.fields names.now) }
     ensures sound { IfOk result (λ e. AreEntries size levels (length fields.now.fields) e.statics e.boxes e.reactions e.criteria) }
 {

@@ -8,8 +8,9 @@ ghost use Rattle.problem_set.specs.Stepping.{denominator, nstages, refine_every,
 ghost use Rattle.problem_set.specs.Stepping.{sparsity, cycle_settings, stepping};
 ghost use Rattle.problem_set.specs.Sound.{IsSparsity, IsCycleSettings, IsStepping};
 ghost use Rattle.problem_set.specs.SoundEntries.{greatest_total};
+ghost use Rattle.problem_set.specs.Limits.{greatest_cycles, greatest_factor, greatest_stages};
 
-use crate::mesh_part::GREATEST_TOTAL;
+use crate::limits::{GREATEST_CYCLES, GREATEST_FACTOR, GREATEST_STAGES, GREATEST_TOTAL};
 use deck_values::{BlockReader, ProblemFault};
 use input_file::Deck;
 use std::alloc::Global;
@@ -120,9 +121,9 @@ fn whole_reader<'a>(alloc: Global, deck: &'a Deck) -> BlockReader<'a>
 fn read_nlim(time: &BlockReader) -> Result<u32, ProblemFault>
     requires { time.now.block.now ≡ time_block }
     ensures value { Gives result (nlim time.now.deck.now) }
-    ensures greatest { IfOk result (λ n. n ≤ 65535) }
+    ensures greatest { IfOk result (λ n. n ≤ greatest_cycles) }
 {
-    let n = time.number("nlim", 0, 65_535, None)?;
+    let n = time.number("nlim", 0, GREATEST_CYCLES, None)?;
     Ok(n as u32)
 }
 
@@ -149,9 +150,9 @@ fn read_dealloc_count(sparse: &BlockReader) -> Result<u32, ProblemFault>
     requires { sparse.now.block.now ≡ sparse_block }
     ensures value { Gives result (dealloc_count sparse.now.deck.now) }
     ensures least { IfOk result (λ n. 1 ≤ n) }
-    ensures greatest { IfOk result (λ n. n ≤ 65535) }
+    ensures greatest { IfOk result (λ n. n ≤ greatest_cycles) }
 {
-    let n = sparse.number("dealloc_count", 1, 65_535, Some(5))?;
+    let n = sparse.number("dealloc_count", 1, GREATEST_CYCLES, Some(5))?;
     Ok(n as u32)
 }
 
@@ -160,9 +161,9 @@ fn read_denominator(whole: &BlockReader) -> Result<u64, ProblemFault>
     requires { whole.now.block.now ≡ whole_block }
     ensures value { Gives result (denominator whole.now.deck.now) }
     ensures least { IfOk result (λ n. 1 ≤ n) }
-    ensures greatest { IfOk result (λ n. n ≤ 1000000000) }
+    ensures greatest { IfOk result (λ n. n ≤ greatest_factor) }
 {
-    whole.number("denominator", 1, 1_000_000_000, Some(1000))
+    whole.number("denominator", 1, GREATEST_FACTOR, Some(1000))
 }
 
 #[tactic(auto, unfolding(crate::specs::Stepping::nstages))]
@@ -170,9 +171,9 @@ fn read_nstages(whole: &BlockReader) -> Result<u32, ProblemFault>
     requires { whole.now.block.now ≡ whole_block }
     ensures value { Gives result (nstages whole.now.deck.now) }
     ensures least { IfOk result (λ n. 1 ≤ n) }
-    ensures greatest { IfOk result (λ n. n ≤ 4) }
+    ensures greatest { IfOk result (λ n. n ≤ greatest_stages) }
 {
-    let n = whole.number("nstages", 1, 4, Some(1))?;
+    let n = whole.number("nstages", 1, GREATEST_STAGES, Some(1))?;
     Ok(n as u32)
 }
 
@@ -181,9 +182,9 @@ fn read_refine_every(whole: &BlockReader) -> Result<u32, ProblemFault>
     requires { whole.now.block.now ≡ whole_block }
     ensures value { Gives result (refine_every whole.now.deck.now) }
     ensures least { IfOk result (λ n. 1 ≤ n) }
-    ensures greatest { IfOk result (λ n. n ≤ 65535) }
+    ensures greatest { IfOk result (λ n. n ≤ greatest_cycles) }
 {
-    let n = whole.number("refine_every", 1, 65_535, Some(1))?;
+    let n = whole.number("refine_every", 1, GREATEST_CYCLES, Some(1))?;
     Ok(n as u32)
 }
 
@@ -192,8 +193,8 @@ fn read_dump_every(whole: &BlockReader) -> Result<u32, ProblemFault>
     requires { whole.now.block.now ≡ whole_block }
     ensures value { Gives result (dump_every whole.now.deck.now) }
     ensures least { IfOk result (λ n. 1 ≤ n) }
-    ensures greatest { IfOk result (λ n. n ≤ 65535) }
+    ensures greatest { IfOk result (λ n. n ≤ greatest_cycles) }
 {
-    let n = whole.number("dump_every", 1, 65_535, Some(10))?;
+    let n = whole.number("dump_every", 1, GREATEST_CYCLES, Some(10))?;
     Ok(n as u32)
 }
