@@ -9,8 +9,8 @@ use block_layout::Layout;
 use block_regions::{EvenRows, ghosts, in_block, write_box_rows};
 use morton_order::Side;
 
-/// Fills the two layers of ghosts next to a side with one total, beside the interior's cells. The ghosts at the corners and all
-/// other cells stay as they are.
+/// Fills the two layers of ghosts next to a side with one total, beside the interior's cells. The ghosts at the
+/// corners and all other cells stay as they are.
 pub fn fill_outside(layout: &Layout, side: Side, total: u64, cells: &mut [u64])
     requires axis { side.axis < layout.now.dims }
     requires cells { length cells.old ≡ len layout.now }

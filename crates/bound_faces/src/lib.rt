@@ -1,6 +1,7 @@
 //! What stands beyond a face of the domain.
 //!
-//! [`ghost_of`] says which total a cell beyond a face has, and [`fill_outside`] writes it into the two layers of ghosts there.
+//! [`ghost_of`] says which total a cell beyond a face has, and [`fill_outside`] writes it into the two layers of
+//! ghosts there.
 #![tactic(auto)]
 
 mod filling;

@@ -18,8 +18,8 @@ fn side_number(side: Side) -> usize
     if side.high { low + 1 } else { low }
 }
 
-/// What stands outside of an inflow face at a cell of a level: the field's amount spread evenly over the cells of a root cell;
-/// nothing of a field without ghosts.
+/// What stands outside of an inflow face at a cell of a level: the field's amount spread evenly over the cells of a
+/// root cell; nothing of a field without ghosts.
 fn entering_at(problem: &Problem, field: u32, side: Side, level: u32) -> u64
     requires field { field < length problem.now.moves }
     requires axis { side.axis < 3 }
@@ -34,8 +34,8 @@ fn entering_at(problem: &Problem, field: u32, side: Side, level: u32) -> u64
     }
 }
 
-/// The total of a field in each ghost beyond a face of the domain, on a block of a level. At a periodic face, beyond which the mesh
-/// goes on, it is 0.
+/// The total of a field in each ghost beyond a face of the domain, on a block of a level. At a periodic face, beyond
+/// which the mesh goes on, it is 0.
 pub fn ghost_of(problem: &Problem, field: u32, side: Side, level: u32) -> u64
     requires field { field < length problem.now.moves }
     requires axis { side.axis < problem.now.shape.dims }

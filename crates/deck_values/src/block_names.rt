@@ -74,7 +74,8 @@ fn push_if_begins(
     name: &str,
     prefix: &str,
 ) -> Result<(), ProblemFault>
-    ensures ok { OnOk result (names.new ≡ names.old ++ filter (λ name. starts_with nat_eq name prefix.now) (name.now ∷ [])) }
+    ensures ok { OnOk result (names.new ≡ names.old
+        ++ filter (λ name. starts_with nat_eq name prefix.now) (name.now ∷ [])) }
     ensures fault { IfErr result (λ fault. fault ≡ no_memory) }
 {
     if begins_with(name, prefix) {

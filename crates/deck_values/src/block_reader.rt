@@ -84,7 +84,8 @@ impl<'a> BlockReader<'a> {
 
     /// The signed number at a key, or its default where the key is absent.
     pub fn signed_at(&self, key: &str, default: i128) -> Result<i128, ProblemFault>
-        ensures { Answers (λ z. z) result (value_at signed_of self.now.deck.now self.now.block.now key.now (Some default)) }
+        ensures { Answers (λ z. z) result (value_at signed_of self.now.deck.now self.now.block.now key.now
+            (Some default)) }
     {
         match self.text(key) {
             Some(text) => match signed_of(text) {
@@ -104,7 +105,8 @@ impl<'a> BlockReader<'a> {
         greatest: u64,
         default: Option<u64>,
     ) -> Result<u64, ProblemFault>
-        ensures value { Answers (λ n. n) result (number self.now.deck.now self.now.block.now key.now least greatest default) }
+        ensures value { Answers (λ n. n) result
+            (number self.now.deck.now self.now.block.now key.now least greatest default) }
         ensures least { IfOk result (λ n. least ≤ n) }
         ensures greatest { IfOk result (λ n. n ≤ greatest) }
     {
@@ -127,7 +129,8 @@ impl<'a> BlockReader<'a> {
     ) -> Result<u64, ProblemFault>
         requires some { 1 ≤ least }
         requires most { 1 ≤ greatest }
-        ensures value { Answers (λ n. n) result (number_or_one self.now.deck.now self.now.block.now key.now least greatest default) }
+        ensures value { Answers (λ n. n) result
+            (number_or_one self.now.deck.now self.now.block.now key.now least greatest default) }
         ensures least { IfOk result (λ n. 1 ≤ n) }
         ensures more { IfOk result (λ n. 2 ≤ n → least ≤ n) }
         ensures greatest { IfOk result (λ n. n ≤ greatest) }

@@ -36,7 +36,8 @@ fn put<'a>(
     i: usize,
 ) -> Result<Option<usize>, ProblemFault>
     ensures before { IfOk result (λ place. place ≡ place_in places.old name.now) }
-    ensures after { OnOk result ((m : Text) → place_in places.new m ≡ update bytes_eq (place_in places.old) name.now (Some i) m) }
+    ensures after { OnOk result ((m : Text)
+        → place_in places.new m ≡ update bytes_eq (place_in places.old) name.now (Some i) m) }
     ensures fault { IfErr result (λ fault. fault ≡ no_memory) }
 {
     Ok(places.insert(name, i)?)

@@ -43,8 +43,10 @@ struct FieldList {
 /// Adds the fields of a block, as many as there is room for.
 fn push_block(alloc: Global, list: &mut FieldList, block: &FieldBlock) -> Result<(), ProblemFault>
     requires room { length list.old.fields < most_gathered }
-    ensures fields { OnOk result (list.new.fields ≡ list.old.fields ++ take (most_gathered - length list.old.fields) (kept_fields block.now)) }
-    ensures moves { OnOk result (list.new.moves ≡ list.old.moves ++ take (most_gathered - length list.old.fields) (moves_of block.now)) }
+    ensures fields { OnOk result (list.new.fields
+        ≡ list.old.fields ++ take (most_gathered - length list.old.fields) (kept_fields block.now)) }
+    ensures moves { OnOk result (list.new.moves
+        ≡ list.old.moves ++ take (most_gathered - length list.old.fields) (moves_of block.now)) }
     ensures fault { IfErr result (λ fault. fault ≡ no_memory) }
 {
     let flags = kept_flags(alloc, &block.flags)?;
@@ -78,8 +80,11 @@ fn push_pool(
     flags: &Flags,
 ) -> Result<(), ProblemFault>
     requires room { length list.old.fields < most_gathered }
-    ensures fields { OnOk result (list.new.fields ≡ list.old.fields ++ map (pool_field block.now.name flags.now) (take (most_gathered - length list.old.fields) block.now.ids)) }
-    ensures moves { OnOk result (list.new.moves ≡ list.old.moves ++ map (λ id. block.now.moves) (take (most_gathered - length list.old.fields) block.now.ids)) }
+    ensures fields { OnOk result (list.new.fields
+        ≡ list.old.fields ++ map (pool_field block.now.name flags.now)
+        (take (most_gathered - length list.old.fields) block.now.ids)) }
+    ensures moves { OnOk result (list.new.moves
+        ≡ list.old.moves ++ map (λ id. block.now.moves) (take (most_gathered - length list.old.fields) block.now.ids)) }
     ensures fault { IfErr result (λ fault. fault ≡ no_memory) }
 {
     let ids = first_ids(block.ids.as_slice(), MOST_GATHERED - list.fields.len());
@@ -146,7 +151,8 @@ fn dense_field(alloc: Global, name: &Name, flags: &Flags) -> Result<Field, Probl
 /// The place of the next block of a package, where there is room for its fields.
 fn next_place(list: &FieldList, next: &[Option<usize>], i: usize) -> Option<usize>
     requires { i < length next.now }
-    ensures { (n : Option ℕ) → slice_get next.now i ≡ Some n → result ≡ (if nat_lt (length list.now.fields) most_gathered then n else None) }
+    ensures { (n : Option ℕ) → slice_get next.now i ≡ Some n
+        → result ≡ (if nat_lt (length list.now.fields) most_gathered then n else None) }
 {
     if list.fields.len() < MOST_GATHERED {
         next[i]
@@ -167,7 +173,8 @@ fn gather(
     requires chained { AreChained blocks.now next.now }
     requires first { IsFirstFrom blocks.now 0 package_name.now (Some first) }
     ensures name { IfOk result (λ m. m.0.name ≡ package_name.now) }
-    ensures fields { IfOk result (λ m. m.0.fields ≡ take most_gathered (flat_map kept_fields (blocks_of blocks.now package_name.now))) }
+    ensures fields { IfOk result (λ m. m.0.fields
+        ≡ take most_gathered (flat_map kept_fields (blocks_of blocks.now package_name.now))) }
     ensures moves { IfOk result (λ m. m.1 ≡ take most_gathered (package_moves blocks.now package_name.now)) }
     ensures fault { IfErr result (λ fault. fault ≡ no_memory) }
 {
@@ -197,7 +204,8 @@ fn register_package(
 ) -> Result<(), ProblemFault>
     requires chained { AreChained blocks.now next.now }
     requires first { IsFirstFrom blocks.now 0 package_name.now (Some first) }
-    ensures registry { Answers (λ _. registry.new) result (with_added registry.old (package_of blocks.now package_name.now)) }
+    ensures registry { Answers (λ _. registry.new) result
+        (with_added registry.old (package_of blocks.now package_name.now)) }
     ensures moves { OnOk result (moves.new ≡ moves.old ++ package_moves blocks.now package_name.now) }
 {
     let (package, more) = gather(alloc, blocks, next, first, package_name)?;
@@ -228,7 +236,8 @@ fn register_once(
     package_name: &Name,
 ) -> Result<(), ProblemFault>
     requires chained { AreChained blocks.now next.now }
-    requires first { is_among registry.old.packages package_name.now ≡ false → IsFirstFrom blocks.now 0 package_name.now (Some i) }
+    requires first { is_among registry.old.packages package_name.now ≡ false
+        → IsFirstFrom blocks.now 0 package_name.now (Some i) }
     ensures registry { Answers (λ _. registry.new) result (with_package_once blocks.now registry.old package_name.now) }
     ensures moves { OnOk result (moves.new ≡ moves.old ++ moves_once blocks.now registry.old package_name.now) }
 {

@@ -79,8 +79,10 @@ impl Problem {
         requires field { field < length self.now.moves }
         requires axis { axis < 3 }
         requires level { level ≤ 10 }
-        ensures right { (f : Field) (m : Moves) → slice_get self.now.fields.fields field ≡ Some f → slice_get self.now.moves field ≡ Some m → result.right ≡ right_rate f m axis level }
-        ensures left { (f : Field) (m : Moves) → slice_get self.now.fields.fields field ≡ Some f → slice_get self.now.moves field ≡ Some m → result.left ≡ left_rate f m axis level }
+        ensures right { (f : Field) (m : Moves) → slice_get self.now.fields.fields field ≡ Some f
+            → slice_get self.now.moves field ≡ Some m → result.right ≡ right_rate f m axis level }
+        ensures left { (f : Field) (m : Moves) → slice_get self.now.fields.fields field ≡ Some f
+            → slice_get self.now.moves field ≡ Some m → result.left ≡ left_rate f m axis level }
     {
         let moves = self.moves.as_slice()[field as usize];
         if self.fields.has(field, Flag::WithFluxes) {

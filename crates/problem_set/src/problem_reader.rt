@@ -41,7 +41,9 @@ pub fn read_problem(alloc: Global, deck: &Deck) -> Result<Problem, ProblemFault>
 #[tactic(auto, unfolding(crate::specs::Problems::fitting))]
 fn check_fitting(alloc: Global, sections: &DeckSections) -> Result<(), ProblemFault>
     ensures value { Gives result (fitting (sections_settings sections.now)) }
-    ensures rates { OnOk result (HaveFittingRates sections.now.grid.shape.dims sections.now.mesh.refining.levels sections.now.stepping.cycle.denominator sections.now.repeated.field_table.fields.fields sections.now.repeated.field_table.moves) }
+    ensures rates { OnOk result (HaveFittingRates sections.now.grid.shape.dims sections.now.mesh.refining.levels
+        sections.now.stepping.cycle.denominator sections.now.repeated.field_table.fields.fields
+        sections.now.repeated.field_table.moves) }
     ensures totals { OnOk result (bound_of (sections_settings sections.now) ≤ greatest_total) }
 {
     check_section_rates(alloc, sections)?;
@@ -56,7 +58,9 @@ fn check_fitting(alloc: Global, sections: &DeckSections) -> Result<(), ProblemFa
 
 /// Whether the rates fit.
 fn check_section_rates(alloc: Global, sections: &DeckSections) -> Result<(), ProblemFault>
-    ensures { Gives result (rates_fit sections.now.grid.shape.dims (sections.now.mesh.refining.levels - 1) sections.now.stepping.cycle.denominator (zip sections.now.repeated.field_table.fields.fields sections.now.repeated.field_table.moves)) }
+    ensures { Gives result (rates_fit sections.now.grid.shape.dims
+        (sections.now.mesh.refining.levels - 1) sections.now.stepping.cycle.denominator
+        (zip sections.now.repeated.field_table.fields.fields sections.now.repeated.field_table.moves)) }
 {
     check_rates(
         alloc,
@@ -94,7 +98,9 @@ fn bound_of(sections: &DeckSections) -> u128
 
 /// The problem of sections that fit.
 fn problem_of(sections: DeckSections) -> Problem
-    requires rates { HaveFittingRates sections.grid.shape.dims sections.mesh.refining.levels sections.stepping.cycle.denominator sections.repeated.field_table.fields.fields sections.repeated.field_table.moves }
+    requires rates { HaveFittingRates sections.grid.shape.dims sections.mesh.refining.levels
+        sections.stepping.cycle.denominator sections.repeated.field_table.fields.fields
+        sections.repeated.field_table.moves }
     requires totals { bound_of (sections_settings sections) ≤ greatest_total }
     ensures { settings_of result ≡ sections_settings sections }
 {

@@ -168,7 +168,9 @@ fn check_field(
     requires denominator { denominator ≤ greatest_factor }
     requires sound { IsMoves moves }
     ensures ok { OnOk result (sum_fits moves.order (rate_sum dims level field.now moves) denominator ≡ true) }
-    ensures fault { IfErr result (λ fault. (fault ≡ no_memory) ⊎ ((sum_fits moves.order (rate_sum dims level field.now moves) denominator ≡ false) × (fault ≡ ProblemFault.Rates field.now.label (rate_sum dims level field.now moves)))) }
+    ensures fault { IfErr result (λ fault. (fault ≡ no_memory)
+        ⊎ ((sum_fits moves.order (rate_sum dims level field.now moves) denominator ≡ false)
+        × (fault ≡ ProblemFault.Rates field.now.label (rate_sum dims level field.now moves)))) }
 {
     let sum = rate_sum(dims, level, field, &moves);
     if sum_fits(moves.order, sum, denominator) {

@@ -48,7 +48,8 @@ pub fn read_repeated_blocks(
     ensures value { Gives result (repeated_blocks deck.now size mode levels) }
     ensures as_many { IfOk result (λ c. length c.field_table.moves ≡ length c.field_table.fields.fields) }
     ensures sound { IfOk result (λ c. All IsMoves c.field_table.moves) }
-    ensures counted { IfOk result (λ c. AreEntries size levels (length c.field_table.fields.fields) c.counted.statics c.counted.boxes c.counted.reactions c.counted.criteria) }
+    ensures counted { IfOk result (λ c. AreEntries size levels
+        (length c.field_table.fields.fields) c.counted.statics c.counted.boxes c.counted.reactions c.counted.criteria) }
 {
     let names = find_blocks(alloc, deck, mode)?;
     let field_table = read_fields(alloc, deck)?;
@@ -77,7 +78,8 @@ fn read_counted_blocks(
     requires few_reactions { length names.now.reactions ≤ most_reactions }
     requires few_criteria { length names.now.criteria ≤ most_criteria }
     ensures value { Gives result (counted_blocks deck.now size levels fields.now.fields names.now) }
-    ensures sound { IfOk result (λ e. AreEntries size levels (length fields.now.fields) e.statics e.boxes e.reactions e.criteria) }
+    ensures sound { IfOk result (λ e. AreEntries size levels
+        (length fields.now.fields) e.statics e.boxes e.reactions e.criteria) }
 {
     let statics = read_blocks(
         alloc,
