@@ -1,6 +1,6 @@
 use crate::flag::Flags;
-use item_lists::Items;
 use crate::name::Name;
+use item_lists::Items;
 
 /// A field of a package: a total in each cell of each block.
 #[derive(Debug, Drop)]
