@@ -1,0 +1,10 @@
+pub mod Advanced
+pub mod Boxes
+pub mod Delivered
+pub mod Entries
+pub mod Mailed
+pub mod Posts
+pub mod Marks
+pub mod Sets
+pub mod Started
+pub mod Taken
