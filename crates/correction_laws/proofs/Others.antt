@@ -34,7 +34,7 @@ first_below : (n u : ℕ) (high : Bool) → u < 1 → cond high n 0 + 0 + u < n 
 first_below n u true h = omega arith
 first_below n u false h = omega arith
 
-covered_within : (l : Layout) (axis : ℕ) (high : Bool) (half : ℕ) (u : List ℕ) → axis < 3 → IsLayout l.dims l.cells → IsWithin (coarse_extents l axis) u → IsWithin (face_extents l axis) (added (covered l axis high half).low u)
+pub covered_within : (l : Layout) (axis : ℕ) (high : Bool) (half : ℕ) (u : List ℕ) → axis < 3 → IsLayout l.dims l.cells → IsWithin (coarse_extents l axis) u → IsWithin (face_extents l axis) (added (covered l axis high half).low u)
 covered_within l zero high half u h s w = record {
   along1 = first_below (cells_along l 0) (slice_index u 0) high w.along1;
   along2 = placed_below (nat_lt 1 l.dims) (cells_along l 1) (slice_index u 1) (half_along l.dims 0 half 1) (sized2 l s) (half_below l.dims 0 half 1) w.along2;
@@ -86,7 +86,7 @@ pub record AtSide (l : Layout) (axis : ℕ) (high : Bool) (j : ℕ) : Type 0 whe
   pub child : j < parts l.dims
   pub half : is_high_half j axis ≡ not high
 
-found : (l : Layout) (m : Mesh) (axis : ℕ) (high : Bool) (j : ℕ) (i : List ℕ) (side : Bool) (u : List ℕ) → AtSide l axis high j → IsWithin l.cells i → IsWithin (coarse_extents l axis) u →
+pub found : (l : Layout) (m : Mesh) (axis : ℕ) (high : Bool) (j : ℕ) (i : List ℕ) (side : Bool) (u : List ℕ) → AtSide l axis high j → IsWithin l.cells i → IsWithin (coarse_extents l axis) u →
     IsSame (with_along axis (slice_index i axis + cond side 1 0) i) (added (covered l axis high (half_of axis j)).low u) → Found l m axis high j i side
 found l m zero high j i side u s w v same =
     let d : ℕ = l.dims in

@@ -26,7 +26,7 @@ use Rattle.correction_laws.proofs.PartSums.{covered_sum, lefts_of_part, rights_o
 use Rattle.correction_laws.proofs.Others.{AtSide, Found, other_stays}
 
 -- a mesh has the blocks of its layout
-shaped_is : (l : Layout) (m : Mesh) → IsLayoutOf m l → shaped l m ≡ m
+pub shaped_is : (l : Layout) (m : Mesh) → IsLayoutOf m l → shaped l m ≡ m
 shaped_is l m is =
     ap (λ d. record m { shape = record m.shape { dims = d }; cells = l.cells }) is.dims
     ∙ ap (λ c. record m { cells = c }) is.cells
