@@ -4,7 +4,7 @@ use Rattle.std.specs.List.{list_all, range_with_len}
 use Rattle.std.proofs.lemmas.Bool.{and_parts, cases_lt, eqb-true, le-ltb, lt-ltb, ne_eqb}
 use Rattle.std.proofs.lemmas.List.Sums.{count_by-le-length, length-filter}
 use Rattle.cycle_rounds.specs.Plan.{IsPlan, Plan, all_tasks, is_sending}
-use Rattle.cycle_rounds.specs.Events.{Event, Letter, Machine, State, after, are_legal, begin, delivered, is_complete, is_legal, posted, put, replay, step, without}
+use Rattle.cycle_rounds.specs.Events.{Event, IsHistory, Letter, Machine, State, after, are_legal, begin, delivered, is_complete, is_legal, posted, put, replay, step, without}
 use Rattle.cycle_rounds.specs.Events.Event.{take, give, deliver}
 use Rattle.cycle_rounds.specs.Protocol.{EventsAreCounted, all_due}
 use Rattle.cycle_rounds.proofs.Lists.{all_from, all_length, count_add, count_cons_no, count_same, count_without, found, length_count, none_if, one_if, put_other, put_same, range_at, range_sum_changed, range_sum_const, range_sum_le, range_sum_same, same_if}
@@ -183,3 +183,10 @@ events_counted X L P p m events plan h =
     let o = replay_orderly p m plan events h in
     let c = from_zero p (replay p m events) (length events) (after_counted p m (begin m) events 0 h (begin_counted p m)) in
     (counted_most p (replay p m events) (length events) o c, λ done. counted_exact p plan (replay p m events) (length events) o c (done_is p (replay p m events) done))
+
+-- no event sends more letters than are due in all
+pub sent_most : {X L P : Type 0} (p : Plan X) (m : Machine X L P) (events : List Event) (e : Event) → IsHistory p m events → is_legal p (replay p m events) e ≡ true → (step p m (replay p m events) e).sent ≤ all_due p
+sent_most p m events e h legal =
+    let c = (step_counted p m (replay p m events) e (0 + length events) legal (after_counted p m (begin m) events 0 h (begin_counted p m))).sent in
+    let d = range_sum_le (sent_of p (step p m (replay p m events) e)) (λ r. length (p.due r)) 0 p.rounds (λ r low high. count_by-le-length (λ x. nat_lt (3 * r) ((step p m (replay p m events) e).given (p.from x))) (p.due r)) in
+    omega arith

@@ -7,11 +7,11 @@ use Rattle.cycle_rounds.specs.Plan.{IsPlan, Plan, all_tasks, is_due, is_reading,
 use Rattle.cycle_rounds.specs.Events.{Event, Letter, Machine, State, after, are_legal, begin, delivered, has_come, is_for, is_legal, is_of, is_past, is_ready, left, may_take, put, step}
 use Rattle.cycle_rounds.specs.Events.Event.{take, give, deliver}
 use Rattle.cycle_rounds.specs.Readiness.{Counts, CountsAreOf, CountsTellTheTruth, come_given, counts_after, counts_along, counts_delivered, due_to, first_counts, first_past, is_last, may_by, past_given, put_at, with_given, with_letter}
-use Rattle.cycle_rounds.proofs.Lists.{any_count, count_any, count_cons, count_cons_yes, count_cons_no, count_gone, count_kept, count_push, found, no_count, none_if, one_if, put_other, put_same, range_sum_changed, all_length, length_count}
+use Rattle.cycle_rounds.proofs.Lists.{any_count, count_any, count_cons, count_cons_yes, count_append, count_cons_no, count_gone, count_kept, count_push, found, no_count, none_if, one_if, put_other, put_same, range_sum_changed, all_length, length_count}
 use Rattle.cycle_rounds.proofs.Orderly.{Orderly, due_count, for_is, is_for_from, of_is, on_way, own_test, somewhere, stays}
 use Rattle.cycle_rounds.proofs.OrderlySteps.{begin_orderly, gives_is}
 use Rattle.cycle_rounds.proofs.OrderlyKept.{step_orderly}
-use Rattle.cycle_rounds.proofs.Each.{Each, each_any, each_in}
+use Rattle.cycle_rounds.proofs.Each.{Each, each_any, each_append, each_in}
 
 -- two tests have one answer where each follows from the other
 pub same_answer : (a b : Bool) → (a ≡ true → b ≡ true) → (b ≡ true → a ≡ true) → a ≡ b
@@ -125,8 +125,30 @@ of_less : (b c : Bool) (n : ℕ) → (c ≡ false → n ≡ 0) → (not b || c) 
 of_less true c n k e = let l = k e in omega arith
 of_less false c n k e = absurd (true≢false e)
 
+sums_most : {X : Type 0} (f g : X → ℕ) → ((x : X) → f x ≤ g x) → (xs : List X) → sum_by f xs ≤ sum_by g xs
+sums_most f g h [] = omega arith
+sums_most f g h (x ∷ xs) = let a = sum_by-cons f x xs in let b = sum_by-cons g x xs in let l = h x in let r = sums_most f g h xs in omega arith
+
+wire_due : {X L P : Type 0} (p : Plan X) → IsPlan p → (s : State X L P) → Orderly p s → Each (λ (l : Letter X P). is_due p l.round l.of ≡ true) s.wire
+wire_due {X} {L} {P} p plan s o = each_in (λ _. Unit {0}) (λ (l : Letter X P). is_due p l.round l.of ≡ true) (λ k l. is_of p k.round k.of l) (own_test p plan) s.wire (λ l h _. (somewhere p s o l.round l.of (let a = any_count (is_of p l.round l.of) s.wire h in omega arith)).due) (each_any s.wire)
+
+-- no more letters of a round are on the wire to a list, or delivered to it, than are due to it
+pub come_most : {X L P : Type 0} (p : Plan X) → IsPlan p → (s : State X L P) → Orderly p s → (r i : ℕ) → count_by (is_for p r i) s.wire + count_by (is_for p r i) s.mail ≤ due_to p i r
+come_most {X} {L} {P} p plan s o r i =
+    let a = count_append (is_for p r i) s.wire s.mail in
+    let b = come_sum p plan r i (s.wire ++ s.mail) (each_append (λ (l : Letter X P). is_due p l.round l.of ≡ true) s.wire s.mail (wire_due p plan s o) (mail_due p plan s o)) in
+    let c = sums_most (of_list p (s.wire ++ s.mail) r i) (λ x. cond (p.to x == i) 1 0) (λ x. of_most (p.to x == i) (count_by (is_of p r x) (s.wire ++ s.mail)) (once x)) (p.due r) in
+    omega arith
+  where
+    once : (x : X) → count_by (is_of p r x) (s.wire ++ s.mail) ≤ 1
+    once x =
+        let a = count_append (is_of p r x) s.wire s.mail in
+        let b = o.place r x in
+        let c = cond_most (on_way p.rounds r (s.given (p.from x)) (s.given (p.to x))) (due_count p r x) (plan.once r x) in
+        omega arith
+
 -- all that is due to a list came exactly where as many came as are due
-come_by : {X L P : Type 0} (p : Plan X) → IsPlan p → (s : State X L P) → Orderly p s → (r i : ℕ) → has_come p s.mail r i ≡ (count_by (is_for p r i) s.mail == due_to p i r)
+pub come_by : {X L P : Type 0} (p : Plan X) → IsPlan p → (s : State X L P) → Orderly p s → (r i : ℕ) → has_come p s.mail r i ≡ (count_by (is_for p r i) s.mail == due_to p i r)
 come_by p plan s o r i =
     let a = come_sum p plan r i s.mail (mail_due p plan s o) in
     let c = sums_part (of_list p s.mail r i) (λ x. cond (p.to x == i) 1 0) (λ x. not (p.to x == i) || list_any (is_of p r x) s.mail)

@@ -1,0 +1,6 @@
+pub mod Zips
+pub mod Wires
+pub mod Readies
+pub mod Takings
+pub mod Givings
+pub mod Deliveries
