@@ -1,0 +1,9 @@
+pub mod Agreements
+pub mod Counts
+pub mod Deliveries
+pub mod EpochsTold
+pub mod Gives
+pub mod Histories
+pub mod LeasesHeld
+pub mod Rising
+pub mod Steps

@@ -1,0 +1,9 @@
+pub mod Changes
+pub mod Cycles
+pub mod Epochs
+pub mod Events
+pub mod Journals
+pub mod Laws
+pub mod Leases
+pub mod Packs
+pub mod Places
