@@ -1,9 +1,10 @@
 -- The rows of a shelf. This serves the private contracts of the crate: a shelf itself is `Shelf`.
-use Rattle.std.specs.Prelude.{◌≡◌, ℕ, ◌+◌, ◌≤◌, Bool, ◌&&◌, is_some, Option, List, [], length, map, filter, replicate, All}
+use Rattle.std.specs.Prelude.{◌≡◌, ℕ, ◌+◌, ◌<◌, ◌≤◌, Bool, ◌&&◌, is_some, Option, None, Some, List, [], length, map, filter, replicate, All}
 use Rattle.std.specs.List.{range_with_len}
 use Rattle.sparse_pool.specs.declared.place.Place.{Place}
 use Rattle.alloc_epochs.specs.Pages.{key_in, pages_for}
 use Rattle.alloc_epochs.specs.Shelf.{place_on}
+use Rattle.alloc_epochs.specs.declared.finding.KeyedField.{KeyedField}
 
 -- so many rows of so many pages with no entry
 abbrev pub empty_rows : ℕ → ℕ → List (List (List (Option ℕ)))
@@ -18,3 +19,10 @@ pub record AreRows (first fields : ℕ) (rows : List (List (List (Option ℕ))))
 -- the places of the first fields of a block with these pages that are allocated and whose field passes
 abbrev pub row_places : List (List (Option ℕ)) → (ℕ → Bool) → ℕ → ℕ → List Place
 row_places pages passes block fields = filter (λ at. is_some (key_in pages at.field) && passes at.field) (map (place_on block) (range_with_len 0 fields))
+
+-- the first of so many fields from one on that has a key in these pages
+pub record IsNextIn (pages : List (List (Option ℕ))) (from count : ℕ) (next : KeyedField) : Type 0 where
+  pub after : from ≤ next.field
+  pub within : next.field < count
+  pub has_key : key_in pages next.field ≡ Some next.key
+  pub first : (f : ℕ) → from ≤ f → f < next.field → key_in pages f ≡ None

@@ -1,9 +1,10 @@
 -- What contracts see of a shelf.
-use Rattle.std.specs.Prelude.{ℕ, ◌+◌, ◌-◌, ◌<◌, ◌≤◌, Bool, true, false, ◌&&◌, cond, nat_lt, is_some, Option, None, List, [], length, map, filter, flat_map, replicate, slice_index_or, slice_set}
+use Rattle.std.specs.Prelude.{◌≡◌, ℕ, ◌+◌, ◌-◌, ◌<◌, ◌≤◌, Bool, true, false, ◌&&◌, cond, nat_lt, is_some, Option, None, Some, List, [], length, map, filter, flat_map, replicate, slice_index_or, slice_set}
 use Rattle.std.specs.List.{range_with_len}
 use Rattle.sparse_pool.specs.declared.place.Place.{Place}
 use Rattle.sparse_pool.specs.declared.place.PackKind.{PackKind}
 use Rattle.sparse_pool.specs.declared.place.PackKind.TheVariants.{All, Ghost, Flux}
+use Rattle.alloc_epochs.specs.declared.finding.KeyedField.{KeyedField}
 use Rattle.package_fields.specs.declared.field.Field.{Field}
 use Rattle.package_fields.specs.declared.flag.Flag.{Flag}
 use Rattle.package_fields.specs.declared.flag.Flag.TheVariants.{FillGhost, WithFluxes}
@@ -61,3 +62,14 @@ listed_on s passes block = filter (λ at. is_some (key_at s at) && passes at.fie
 -- the places that are allocated and whose field passes, by block, then field
 abbrev pub listed : Shelved → (ℕ → Bool) → List Place
 listed s passes = flat_map (listed_on s passes) (range_with_len s.first (length s.keys))
+
+-- the first field of a block from one on that is allocated there, with its key
+pub record IsNext (s : Shelved) (block from : ℕ) (next : KeyedField) : Type 0 where
+  pub after : from ≤ next.field
+  pub within : next.field < s.fields
+  pub has_key : key_at s (place_on block next.field) ≡ Some next.key
+  pub first : (f : ℕ) → from ≤ f → f < next.field → key_at s (place_on block f) ≡ None
+
+-- no field of a block from one on is allocated there
+abbrev pub IsNoneFrom : Shelved → ℕ → ℕ → Type 0
+IsNoneFrom s block from = (f : ℕ) → from ≤ f → f < s.fields → key_at s (place_on block f) ≡ None

@@ -8,9 +8,11 @@
 //! a block at most.
 #![tactic(auto)]
 
+mod finding;
 mod listing;
 mod page;
 mod row;
 mod shelf;
 
+pub use finding::KeyedField;
 pub use shelf::Shelf;

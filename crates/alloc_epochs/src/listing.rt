@@ -67,7 +67,7 @@ pub fn list_row(
 }
 
 /// The first field of the page after that of a field.
-fn next_page(field: u32) -> u32
+pub(crate) fn next_page(field: u32) -> u32
     requires { field < 256 }
     ensures later { field < result }
     ensures near { (result - 1) / 32 ≡ field / 32 }

@@ -1,7 +1,8 @@
-ghost use Rattle.std.specs.Prelude.{◌≡◌, ◌+◌, ◌-◌, ◌<◌, ◌≤◌, ◌^◌, Some, None, IsOk, IsSome, IfOk, IfNone, OnOk, OnErr, OnSome, length};
+ghost use Rattle.std.specs.Prelude.{◌≡◌, ◌+◌, ◌-◌, ◌<◌, ◌≤◌, ◌^◌, Some, None, IsOk, IsSome, IfOk, IfNone, IfSome, OnOk, OnErr, OnSome, length};
 ghost use Rattle.alloc_epochs.specs.Rows.{empty_rows};
-ghost use Rattle.alloc_epochs.specs.Shelf.{IsOn, key_at, listed, no_keys, takes, with_key};
+ghost use Rattle.alloc_epochs.specs.Shelf.{IsNext, IsNoneFrom, IsOn, key_at, listed, no_keys, takes, with_key};
 
+use crate::finding::{KeyedField, next_in_row};
 use crate::listing::list_row;
 use crate::page::{PAGE_SIZE, Pool};
 use crate::row::Row;
@@ -71,6 +72,19 @@ impl Shelf {
         } else {
             None
         }
+    }
+
+    /// The first field from one on that is allocated on a block, with its key, or None where there is none.
+    ///
+    /// A step for each field of a page of 32 that has a key, and one for each other page.
+    pub fn next_field(&self, block: u32, from: u32) -> Option<KeyedField>
+        requires from_first { self.now.first ≤ block }
+        requires block { block < self.now.first + length self.now.keys }
+        ensures found { IfSome result (IsNext self.now block from) }
+        ensures none { IfNone result (IsNoneFrom self.now block from) }
+    {
+        let row = (block - self.first) as usize;
+        next_in_row(&self.rows[row], from, self.fields)
     }
 
     /// How often a place came or went since the last restart.
