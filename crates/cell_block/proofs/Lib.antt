@@ -1,0 +1,10 @@
+pub mod Tables
+pub mod Meshes
+pub mod Partitions
+pub mod PartitionChanges
+pub mod PartitionLists
+pub mod Grids
+pub mod KeptPlaces
+pub mod KeptChanges
+pub mod KeptStates
+pub mod Stamped

@@ -1,0 +1,5 @@
+pub mod State
+pub mod Rules
+pub mod Laws
+pub mod Partitions
+pub mod Store
