@@ -1,5 +1,5 @@
 -- Lists by block and field: when two are one, and what one with a changed place has.
-use Rattle.std.proofs.Common.{◌≡◌, ◌≢◌, ◌⊎◌, ◌∙◌, sym, ap, refl, inl, inr, ℕ, ◌+◌, ◌-◌, ◌<◌, Bool, true, false, is_some, cond, Option, None, Some, List, [], ◌∷◌, length, map, replicate, slice_index_or, slice_set, arith}
+use Rattle.std.proofs.Common.{◌≡◌, ◌≢◌, ◌⊎◌, ◌∙◌, sym, ap, inl, inr, ℕ, ◌+◌, ◌<◌, Bool, is_some, cond, Option, None, List, [], length, map, slice_index_or, slice_set, arith}
 use Rattle.std.specs.List.{count_by}
 use Rattle.std.proofs.lemmas.Bool.{cases_eq, cases_lt}
 use Rattle.std.proofs.lemmas.List.{ext_get_or, get_or_past, get_or-map, get_or-set_same, get_or-set_other, length-map, length-set}

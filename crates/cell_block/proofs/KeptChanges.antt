@@ -1,16 +1,16 @@
 -- What is kept, where a place came or went, and how many more can come.
-use Rattle.std.proofs.Common.{◌≡◌, ◌≢◌, ◌∙◌, sym, ap, subst, refl, inl, inr, ℕ, ◌+◌, ◌-◌, ◌/◌, ◌<◌, ◌≤◌, Bool, true, false, is_some, min, Option, None, Some, List, [], length, map, slice_index, slice_index_or, slice_set, arith}
+use Rattle.std.proofs.Common.{◌≡◌, ◌≢◌, ◌∙◌, sym, ap, subst, inl, inr, ℕ, ◌+◌, ◌<◌, ◌≤◌, is_some, min, Option, None, Some, List, length, map, slice_index, slice_set, arith}
 use Rattle.std.specs.Prelude.{IsSomeAnd, unwrap_or}
 use Rattle.std.specs.Option.{option_map}
 use Rattle.std.proofs.lemmas.Bool.{cases_eq, cases_lt}
 use Rattle.std.proofs.lemmas.List.{get_or_past, get_or-map, get_or-set_same, get_or-set_other, length-map, length-set}
-use Rattle.slab.specs.Slab.{Slab, Updates, get, slab_len}
+use Rattle.slab.specs.Slab.{Slab, Updates, get}
 use Rattle.sparse_pool.specs.declared.place.Place.{Place}
-use Rattle.cell_block.specs.State.{Entry, entry_in, with_entry}
+use Rattle.cell_block.specs.State.{Entry, with_entry}
 use Rattle.cell_block.specs.Partitions.{IsOnShelves, IsPlace, OnShelves, key_on, with_key_on, with_place_on}
-use Rattle.cell_block.specs.Store.{AreKept, AreTied, Placed, entry_of, entry_under, keys_with, placed, room_in, with_come}
+use Rattle.cell_block.specs.Store.{AreKept, entry_of, entry_under, keys_with}
 use Rattle.cell_block.specs.declared.kept.Kept.{Kept}
-use Rattle.cell_block.proofs.Grids.{at_place, cases_place, count_put, count_put_other, has_at, one_if, put_at, put_other, put_same}
+use Rattle.cell_block.proofs.Grids.{cases_place, count_put, count_put_other, one_if, put_other, put_same}
 use Rattle.cell_block.proofs.KeptPlaces.{keys_differ, keys_put_shape, keys_shape, others_same, places_put, some_same, under}
 
 abbrev no_kept : Option Kept
@@ -53,8 +53,8 @@ added s slab slab' counts spares at key n kept shape are place absent vacant upd
     let here : key_on keys' at ≡ Some key = put_same s.keys at (Some key) block (omega (arith, shape.rows at.block place.block, place.field)) in
     let other_key : (p : Place) → p ≢ at → key_on keys' p ≡ key_on s.keys p = λ p ne. put_other s.keys at p (Some key) block ne in
     let apart : (p : Place) (k : ℕ) → key_on s.keys p ≡ Some k → k ≢ key = λ p k e is.
-        let u = under s slab p k are.tied e in
-        let clash : no_kept ≡ Some u.it = sym vacant ∙ sym (ap (get slab) is) ∙ u.got in absurd (cc) in
+    let u = under s slab p k are.tied e in
+    let clash : no_kept ≡ Some u.it = sym vacant ∙ sym (ap (get slab) is) ∙ u.got in absurd (cc) in
     record {
       places = places_put s.keys keys' slab slab' at s.leaves s.fields (Some (entry_of kept)) (keys_shape s shape) (keys_put_shape s at (Some key) shape) place.block place.field
           (ap (entry_under slab') here ∙ ap (option_map entry_of) updates.changed)

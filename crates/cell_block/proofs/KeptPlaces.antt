@@ -1,18 +1,18 @@
 -- What is kept at each place, where one place changed.
-use Rattle.std.proofs.Common.{◌≡◌, ◌≢◌, ◌⊎◌, ◌∙◌, sym, ap, subst, refl, inl, inr, ℕ, ◌+◌, ◌-◌, ◌/◌, ◌<◌, ◌≤◌, Bool, true, false, is_some, min, Option, None, Some, List, [], length, map, slice_index, slice_index_or, slice_set, arith}
+use Rattle.std.proofs.Common.{◌≡◌, ◌≢◌, ◌∙◌, sym, ap, subst, refl, inl, inr, ℕ, ◌-◌, ◌<◌, true, is_some, Option, None, Some, List, [], length, map, slice_index_or, arith}
 use Rattle.std.specs.Prelude.{IsSomeAnd, unwrap_or}
 use Rattle.std.proofs.lemmas.List.Sums.{sum_by-set}
 use Rattle.std.specs.Option.{option_map}
-use Rattle.std.proofs.lemmas.Bool.{cases_eq, cases_lt, false≢true}
-use Rattle.std.proofs.lemmas.List.{get_or_past, get_or-map, get_or-set_same, get_or-set_other, length-map, length-set}
+use Rattle.std.proofs.lemmas.Bool.{cases_eq, cases_lt}
+use Rattle.std.proofs.lemmas.List.{get_or_past, length-map}
 use Rattle.slab.proofs.SlabLemmas.{ContainsKey-within, Updates-with_value}
 use Rattle.slab.specs.Slab.{Slab, Updates, get, slab_len, with_value}
 use Rattle.sparse_pool.specs.declared.place.Place.{Place}
-use Rattle.cell_block.specs.State.{Entry, entry_in, with_entry}
-use Rattle.cell_block.specs.Partitions.{IsOnShelves, IsPlace, OnShelves, key_on, with_key_on, with_place_on}
-use Rattle.cell_block.specs.Store.{AreKept, AreTied, room_in, Placed, entry_of, entry_under, kept_under, keys_with, placed}
+use Rattle.cell_block.specs.State.{Entry, with_entry}
+use Rattle.cell_block.specs.Partitions.{IsOnShelves, IsPlace, OnShelves, key_on, with_key_on}
+use Rattle.cell_block.specs.Store.{AreKept, AreTied, room_in, entry_of, entry_under}
 use Rattle.cell_block.specs.declared.kept.Kept.{Kept}
-use Rattle.cell_block.proofs.Grids.{at_place, cases_place, count_put, count_put_other, has_at, mapped_at, mapped_rows, one_if, put_at, put_long, put_other, put_rows, put_same, row_of, same_grids}
+use Rattle.cell_block.proofs.Grids.{at_place, cases_place, mapped_at, mapped_rows, one_if, put_at, put_long, put_other, put_rows, put_same, row_of, same_grids}
 
 abbrev no_key_yet : Option ℕ
 no_key_yet = None

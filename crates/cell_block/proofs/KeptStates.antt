@@ -1,7 +1,6 @@
 -- What is seen of a store.
-use Rattle.std.proofs.Common.{◌≡◌, ◌≢◌, ◌∙◌, sym, ap, subst, refl, inl, inr, ℕ, ◌+◌, ◌*◌, ◌-◌, ◌/◌, ◌<◌, ◌≤◌, ◌&&◌, Bool, true, false, is_some, min, Option, None, Some, List, [], length, map, replicate, slice_index, slice_index_or, slice_set, arith}
+use Rattle.std.proofs.Common.{◌≡◌, ◌∙◌, sym, ap, subst, refl, ℕ, ◌+◌, ◌*◌, ◌-◌, ◌<◌, ◌≤◌, ◌&&◌, Bool, true, is_some, min, Option, None, Some, List, [], map, replicate, slice_index, arith}
 use Rattle.std.specs.Option.{option_map}
-use Rattle.std.specs.List.{count_by}
 use Rattle.std.proofs.lemmas.List.{ext_get_or, get_or-map, get_or-replicate, length-map, length-replicate}
 use Rattle.std.proofs.lemmas.List.Sums.{count_by-le-length, get_or-le-sum_by}
 use Rattle.slab.specs.Slab.{Slab, get, slab_len, with_value}
@@ -14,7 +13,7 @@ use Rattle.cell_block.specs.declared.kept.Kept.{Kept}
 use Rattle.cell_block.proofs.Tables.{count_same}
 use Rattle.cell_block.proofs.PartitionLists.{filter_same, flat_same}
 use Rattle.cell_block.proofs.Grids.{has_at, mapped_at, mapped_rows, one_if, row_of}
-use Rattle.cell_block.proofs.KeptPlaces.{Under, kept_changed, under}
+use Rattle.cell_block.proofs.KeptPlaces.{kept_changed, under}
 use Rattle.cell_block.proofs.KeptChanges.{Came, changed_on, spare_is}
 
 -- what is seen at a place

@@ -8,3 +8,6 @@ pub mod KeptPlaces
 pub mod KeptChanges
 pub mod KeptStates
 pub mod Stamped
+pub mod Layouts
+pub mod Buffers
+pub mod Openings

@@ -1,5 +1,5 @@
 -- The shelves of all partitions, of which one place came or went.
-use Rattle.std.proofs.Common.{◌≡◌, ◌≢◌, ◌∙◌, sym, ap, subst, refl, inl, inr, ℕ, ◌+◌, ◌*◌, ◌-◌, ◌/◌, ◌<◌, ◌≤◌, Option, None, Some, List, [], length, map, slice_index, slice_index_or, slice_set, arith}
+use Rattle.std.proofs.Common.{◌≡◌, ◌≢◌, ◌∙◌, sym, ap, subst, inl, inr, ℕ, ◌+◌, ◌*◌, ◌-◌, ◌/◌, ◌<◌, ◌≤◌, Option, List, [], length, map, slice_index, slice_index_or, slice_set, arith}
 use Rattle.std.proofs.lemmas.Bool.{cases_eq, cases_lt}
 use Rattle.std.proofs.lemmas.List.{get_or_past, get_or-map, get_or-set_same, get_or-set_other, length-map, length-set, map-set}
 use Rattle.mesh_rules.specs.Sums.{table}
@@ -96,11 +96,21 @@ spares_put shelves i more list new there room =
     let spare = λ (v : Shelved). v.spare in
     elim (cases_lt list (length shelves)) [
       | inl lt ↦ elim (cases_eq list i) [
-        | inl e ↦ omega (arith, room, get_or-map spare shelves list no_shelf 0 lt, get_or-map spare (slice_set shelves i new) list no_shelf 0 (omega (arith, lt, length-set shelves i new)),
-            ap (λ (n : ℕ). (slice_index_or shelves n no_shelf).spare) e, ap (λ (n : ℕ). (slice_index_or (slice_set shelves i new) n no_shelf).spare) e,
-            ap (λ (v : Shelved). v.spare) (get_or-set_same shelves i new no_shelf there))
-        | inr ne ↦ omega (arith, get_or-map spare shelves list no_shelf 0 lt, get_or-map spare (slice_set shelves i new) list no_shelf 0 (omega (arith, lt, length-set shelves i new)),
-            ap (λ (v : Shelved). v.spare) (get_or-set_other shelves i list new no_shelf ne))
+        | inl e ↦ omega (
+          arith,
+          room,
+          get_or-map spare shelves list no_shelf 0 lt,
+          get_or-map spare (slice_set shelves i new) list no_shelf 0 (omega (arith, lt, length-set shelves i new)),
+          ap (λ (n : ℕ). (slice_index_or shelves n no_shelf).spare) e,
+          ap (λ (n : ℕ). (slice_index_or (slice_set shelves i new) n no_shelf).spare) e,
+          ap (λ (v : Shelved). v.spare) (get_or-set_same shelves i new no_shelf there),
+        )
+        | inr ne ↦ omega (
+          arith,
+          get_or-map spare shelves list no_shelf 0 lt,
+          get_or-map spare (slice_set shelves i new) list no_shelf 0 (omega (arith, lt, length-set shelves i new)),
+          ap (λ (v : Shelved). v.spare) (get_or-set_other shelves i list new no_shelf ne),
+        )
       ]
       | inr past ↦ omega (arith, get_or_past (map spare shelves) list 0 (omega (arith, past, length-map shelves spare)))
     ]

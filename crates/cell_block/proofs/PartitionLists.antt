@@ -1,15 +1,15 @@
 -- The shelves of all partitions: new, restarted, with more room, and listed.
-use Rattle.std.proofs.Common.{◌≡◌, ◌≢◌, ◌∙◌, sym, ap, subst, refl, inl, inr, ℕ, zero, suc, ◌+◌, ◌*◌, ◌-◌, ◌/◌, ◌<◌, ◌≤◌, ◌&&◌, Bool, cond, is_some, min, Option, None, Some, List, [], ◌∷◌, ◌++◌, length, map, replicate, slice_index, slice_index_or, slice_set, arith}
+use Rattle.std.proofs.Common.{◌≡◌, ◌∙◌, sym, ap, subst, refl, inl, inr, ℕ, zero, suc, ◌+◌, ◌*◌, ◌-◌, ◌/◌, ◌<◌, ◌≤◌, ◌&&◌, Bool, cond, is_some, Option, None, Some, List, [], ◌∷◌, ◌++◌, length, map, replicate, slice_index_or, slice_set, arith}
 use Rattle.std.specs.Prelude.{IfNone, IfOk, IfSome, Result, filter, flat_map}
 use Rattle.mesh_num.specs.declared.memory.NoMemory.{NoMemory}
 use Rattle.std.specs.List.{range_with_len}
 use Rattle.std.proofs.Math.Nat.{div-eq_of_lt-le, div-mul-le_self}
-use Rattle.std.proofs.lemmas.Bool.{cases_eq, cases_lt}
-use Rattle.std.proofs.lemmas.List.{ext_get_or, get_or_past, get_or-map, get_or-replicate, get_or-set_same, get_or-set_other, length-map, length-replicate, length-set, map-set}
+use Rattle.std.proofs.lemmas.Bool.{cases_eq}
+use Rattle.std.proofs.lemmas.List.{ext_get_or, get_or-map, get_or-replicate, get_or-set_same, get_or-set_other, length-map, length-replicate, length-set}
 use Rattle.mesh_rules.specs.Sums.{table}
 use Rattle.sparse_pool.specs.declared.place.Place.{Place}
 use Rattle.alloc_epochs.specs.declared.finding.KeyedField.{KeyedField}
-use Rattle.alloc_epochs.specs.Shelf.{IsNext, IsNoneFrom, Shelved, key_at, keys_of, listed, listed_on, no_keys, place_on}
+use Rattle.alloc_epochs.specs.Shelf.{IsNext, IsNoneFrom, Shelved, key_at, listed, listed_on, no_keys, place_on}
 use Rattle.cell_block.specs.Partitions.{AreShelves, IsNextOn, IsNoneOnFrom, IsShelfOf, OnShelves, blocks_in, key_on, keyed_in, keyed_on, lists_of, new_shelf, no_shelf, nothing_on, on_shelves, restarted, row_on, shelf_of}
 use Rattle.cell_block.proofs.Tables.{table_at, table_length, table_same}
 use Rattle.cell_block.proofs.Partitions.{in_list, key_is, row_is, row_within, shelf_at}

@@ -1,14 +1,14 @@
 -- The shelves of all partitions, seen as one.
-use Rattle.std.proofs.Common.{◌≡◌, ◌≢◌, ◌∙◌, sym, ap, subst, refl, inl, inr, ℕ, ◌+◌, ◌*◌, ◌-◌, ◌/◌, ◌<◌, ◌≤◌, Bool, true, is_some, nat_lt, min, Option, None, Some, List, [], length, map, slice_index, slice_index_or, slice_set, cond, arith}
-use Rattle.std.proofs.Math.Nat.{div-mul-le_self, lt-div-mul-add, div-eq_of_lt-le}
+use Rattle.std.proofs.Common.{◌≡◌, ◌∙◌, sym, ap, subst, inl, inr, ℕ, ◌+◌, ◌*◌, ◌-◌, ◌/◌, ◌<◌, ◌≤◌, true, is_some, nat_lt, Option, None, List, [], length, slice_index, slice_index_or, slice_set, arith}
+use Rattle.std.proofs.Math.Nat.{div-mul-le_self, lt-div-mul-add}
 use Rattle.std.proofs.lemmas.Nat.{le-div}
 use Rattle.std.proofs.lemmas.Bool.{false≢true, cases_eq, cases_lt, le-ltb, cond-false}
-use Rattle.std.proofs.lemmas.List.{get_or_past, get_or_read, get_or-map, get_or-set_same, get_or-set_other, length-map, length-set, map-set}
+use Rattle.std.proofs.lemmas.List.{get_or_past, get_or_read, get_or-map, get_or-set_same, get_or-set_other, length-map, length-set}
 use Rattle.mesh_rules.specs.Sums.{table}
 use Rattle.sparse_pool.specs.declared.place.Place.{Place}
-use Rattle.alloc_epochs.specs.Shelf.{IsOn, Shelved, key_at, keys_of, place_on, with_key}
-use Rattle.cell_block.specs.Partitions.{AreShelves, IsChanged, IsOnShelves, IsPlace, IsShelfOf, OnShelves, blocks_in, key_on, lists_of, no_shelf, on_shelves, row_on, shelf_of, with_key_on, with_place_on}
-use Rattle.cell_block.proofs.Tables.{table_at, table_by, table_length}
+use Rattle.alloc_epochs.specs.Shelf.{IsOn, Shelved, key_at, keys_of}
+use Rattle.cell_block.specs.Partitions.{AreShelves, IsChanged, IsOnShelves, IsPlace, IsShelfOf, OnShelves, key_on, lists_of, no_shelf, on_shelves, row_on, shelf_of}
+use Rattle.cell_block.proofs.Tables.{table_at, table_length}
 
 abbrev pub no_key : Option ℕ
 no_key = None

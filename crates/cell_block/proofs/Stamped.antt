@@ -1,22 +1,22 @@
 -- The stamps of a block, raised from the first of its fields to the last.
-use Rattle.std.proofs.Common.{◌≡◌, ◌≢◌, ◌⊎◌, ◌∙◌, sym, ap, subst, refl, inl, inr, ℕ, ◌+◌, ◌-◌, ◌<◌, ◌≤◌, ◌^◌, ◌&&◌, Bool, true, false, cond, is_some, nat_eq, nat_lt, min, Option, None, Some, List, [], length, map, slice_index_or, slice_set, arith}
+use Rattle.std.proofs.Common.{◌≡◌, ◌≢◌, ◌∙◌, sym, ap, subst, refl, inl, inr, ℕ, ◌+◌, ◌-◌, ◌<◌, ◌≤◌, ◌^◌, ◌&&◌, Bool, true, false, cond, is_some, nat_eq, nat_lt, min, Option, None, Some, List, [], length, map, slice_index_or, slice_set, arith}
 use Rattle.std.specs.Prelude.{IsSomeAnd, unwrap_or}
 use Rattle.std.specs.Option.{ForSome, option_and_then, option_map}
 use Rattle.std.proofs.lemmas.Bool.{cases_eq, cases_lt, lt-ltb, le-ltb, cond-true, cond-false}
 use Rattle.std.proofs.lemmas.Bool.Decides.{nat_tests}
-use Rattle.std.proofs.lemmas.List.{ext_get_or, get_or-map, get_or-set_same, get_or-set_other, length-map, length-set}
+use Rattle.std.proofs.lemmas.List.{get_or-map, get_or-set_same, get_or-set_other, length-map, length-set}
 use Rattle.slab.specs.Slab.{Slab, Updates, get, with_value}
 use Rattle.slab.proofs.SlabLemmas.{Updates-with_value}
 use Rattle.sparse_pool.specs.declared.place.Place.{Place}
 use Rattle.alloc_epochs.specs.declared.finding.KeyedField.{KeyedField}
 use Rattle.alloc_epochs.specs.Shelf.{place_on}
 use Rattle.field_bufs.specs.declared.buf.FieldBuf.{FieldBuf}
-use Rattle.cell_block.specs.State.{Entry, buffer_in, entry_in, stamped_entry, stamps_raised}
-use Rattle.cell_block.specs.Partitions.{IsNextOn, IsNoneOnFrom, IsOnShelves, IsPlace, OnShelves, key_on}
-use Rattle.cell_block.specs.Store.{AreKept, AreStamped, AreTied, HaveRoomForStamp, Placed, buf_under, entry_of, entry_under, placed, room_in, stamped_below, stamped_kept}
+use Rattle.cell_block.specs.State.{Entry, buffer_in, stamped_entry, stamps_raised}
+use Rattle.cell_block.specs.Partitions.{IsNextOn, IsNoneOnFrom, IsOnShelves, OnShelves, key_on}
+use Rattle.cell_block.specs.Store.{AreKept, AreStamped, AreTied, HaveRoomForStamp, Placed, entry_of, entry_under, placed, room_in, stamped_below, stamped_kept}
 use Rattle.cell_block.specs.declared.kept.Kept.{Kept}
-use Rattle.cell_block.proofs.Grids.{at_place, mapped_at, mapped_rows, row_of, same_grids}
-use Rattle.cell_block.proofs.KeptPlaces.{Under, key_place, len_same, some_same, under}
+use Rattle.cell_block.proofs.Grids.{mapped_at, mapped_rows, row_of, same_grids}
+use Rattle.cell_block.proofs.KeptPlaces.{Under, key_place, some_same, under}
 use Rattle.cell_block.proofs.KeptStates.{seen_at}
 
 -- whether a field of a block lies below another
@@ -93,7 +93,7 @@ pub next_kept : (s : OnShelves) (old now : Slab Kept) (block from : ℕ) (next :
 next_kept s old now block from next tied is each =
     let u = under s old (place_on block next.field) next.key tied is.has_key in
     let still : stamped_below block from u.it ≡ u.it = cond-false (is_below block from u.it.at) (stamped_kept u.it) u.it
-        (below_past block from u.it.at (omega (arith, is.after, ap (λ (p : Place). p.field) u.own)) (ap (λ (p : Place). p.block) u.own)) in
+    (below_past block from u.it.at (omega (arith, is.after, ap (λ (p : Place). p.field) u.own)) (ap (λ (p : Place). p.block) u.own)) in
     (u, each next.key ∙ ap (option_map (stamped_below block from)) u.got ∙ ap Some still)
 
 -- all fields are stamped

@@ -1,6 +1,6 @@
 -- Tables: their length, their items, and when two are one; counts of lists that pass alike.
-use Rattle.std.proofs.Common.{◌≡◌, ℕ, zero, suc, ◌+◌, ◌<◌, Bool, cond, List, [], ◌∷◌, length, map, refl, arith, ◌∙◌, sym, ap}
-use Rattle.std.specs.List.{count_by, range_with_len, slice_index_or}
+use Rattle.std.proofs.Common.{◌≡◌, ℕ, suc, ◌+◌, ◌<◌, Bool, cond, List, [], ◌∷◌, length, refl, arith, ◌∙◌, sym, ap}
+use Rattle.std.specs.List.{count_by, slice_index_or}
 use Rattle.std.proofs.lemmas.List.{ext_get_or}
 use Rattle.std.proofs.lemmas.List.Sums.{sum_by-cons}
 use Rattle.std.proofs.lemmas.List.FromFn.{get_or-map-range_with_len, length-map-range_with_len}

@@ -9,11 +9,13 @@ use Rattle.cell_block.specs.Rules.{interior_at, mask_in, mesh_in, slot_in}
 
 -- the mesh of a mesh state has on each leaf what stands in the buffer there, and zeros where there is none
 abbrev pub TotalsAreInteriors : Type 0
-TotalsAreInteriors = (l : Layout) (s : Stored) (leaf f : ℕ) → leaf < leaf_count s → f < s.fields → totals_on (mesh_in l s) leaf f ≡ interior_at l s (place_on leaf f)
+TotalsAreInteriors = (l : Layout) (s : Stored) (leaf f : ℕ) → leaf < leaf_count s → f < s.fields
+    → totals_on (mesh_in l s) leaf f ≡ interior_at l s (place_on leaf f)
 
 -- its mask has the slot of each place
 abbrev pub SlotsArePlaces : Type 0
-SlotsArePlaces = (s : Stored) (leaf f : ℕ) → leaf < leaf_count s → f < s.fields → slot_at (mask_in s) leaf f ≡ slot_in s leaf f
+SlotsArePlaces = (s : Stored) (leaf f : ℕ) → leaf < leaf_count s → f < s.fields
+    → slot_at (mask_in s) leaf f ≡ slot_in s leaf f
 
 -- a field is allocated on as many blocks as keep it
 abbrev pub CountsAreKept : Type 0

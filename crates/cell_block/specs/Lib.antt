@@ -3,3 +3,4 @@ pub mod Rules
 pub mod Laws
 pub mod Partitions
 pub mod Store
+pub mod Whole

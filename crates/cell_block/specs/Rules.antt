@@ -1,5 +1,5 @@
 -- Which state of the rules a mesh state stands for.
-use Rattle.std.specs.Prelude.{◌≡◌, ℕ, cond, false, Option, Some, None, List, [], length, replicate}
+use Rattle.std.specs.Prelude.{◌≡◌, ℕ, cond, false, Option, Some, None, List, length, replicate}
 use Rattle.mesh_rules.specs.Sums.{table}
 use Rattle.block_tree.specs.Blocks.{TreeOfBlocks, leaves}
 use Rattle.block_layout.specs.declared.layout.Layout.{Layout}
@@ -63,7 +63,8 @@ state_in l s = record { mesh = mesh_in l s; mask = mask_in s; counters = s.count
 abbrev pub IsWhole : Stored → Type 0
 IsWhole s = (at : Place) → is_lent s at ≡ false
 
--- a mesh state of a problem with nothing lent: its blocks are the problem's, with a place for each of its fields, in partitions of its size
+-- a mesh state of a problem with nothing lent: its blocks are the problem's, with a place for each of its fields, in
+-- partitions of its size
 pub record IsStoredFor (p : Settings) (s : Stored) : Type 0 where
   pub whole : IsWhole s
   pub shape : s.tree.shape ≡ p.shape
@@ -72,8 +73,8 @@ pub record IsStoredFor (p : Settings) (s : Stored) : Type 0 where
   pub fields : s.fields ≡ field_count p
   pub size : s.size ≡ partition_size p.pack_size (length (leaves s.tree))
 
--- it stands for a state of the rules: the tree is the mesh's, what is allocated is exactly what is kept, with its idle count, the totals
--- are the mesh's, zero where a field is not allocated, and the counters are the state's
+-- it stands for a state of the rules: the tree is the mesh's, what is allocated is exactly what is kept, with its idle
+-- count, the totals are the mesh's, zero where a field is not allocated, and the counters are the state's
 pub record StandsFor (p : Settings) (s : Stored) (c : State) : Type 0 where
   pub stored : IsStoredFor p s
   pub state : (l : Layout) → HasLayout s l → state_in l s ≡ c
@@ -84,7 +85,8 @@ IsFitFor p s = (c : State) × (StandsFor p s c × IsFit p c)
 
 -- what is kept at first of a field on a block: a buffer of zeros, but nothing of a sparse field
 abbrev pub opening_entry : Settings → Layout → ℕ → ℕ → Option Entry
-opening_entry p l block f = cond (is_sparse p f) None (Some (record { idle = 0; buf = Some (zeros (len l) (face_count l) block f 0) }))
+opening_entry p l block f =
+    cond (is_sparse p f) None (Some (record { idle = 0; buf = Some (zeros (len l) (face_count l) block f 0) }))
 
 -- the mesh state of a tree with the fields that no block may go without, as zeros
 abbrev pub opening_stored : Settings → Layout → TreeOfBlocks → List ℕ → Stored

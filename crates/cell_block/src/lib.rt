@@ -6,9 +6,11 @@
 //! another; each counts how often a place came or went.
 #![tactic(auto)]
 
-mod laws;
-mod shelf_lists;
+mod interior;
 mod kept;
+mod laws;
+mod opening;
+mod shelf_lists;
 mod shelves;
 mod stamping;
 mod state;

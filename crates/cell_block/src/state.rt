@@ -11,9 +11,11 @@ ghost use Rattle.problem_set.specs.SettingsOf.{settings_of};
 ghost use Rattle.cell_block.specs.State.{Fits, HasLayout, IsIn, IsStored, buffer_at, count_on, entry_at, epoch_at, idle_at, is_allocated, is_lent, leaf_count, list_count, list_of, listed, place_of, spare_at, with_buffer, with_change, with_idle, with_stamps};
 ghost use Rattle.cell_block.specs.Rules.{IsLayoutFor, IsWhole, interior_at, opening_stored};
 
+use crate::interior::write_interior;
+use crate::opening::{opening_store, zero_counters};
+use crate::store::Store;
 use block_layout::Layout;
 use block_tree::Tree;
-use cell_lists::Cells;
 use field_bufs::FieldBuf;
 use mesh_num::NoMemory;
 use package_fields::Registry;
@@ -30,20 +32,21 @@ use std::sync::Arc;
 #[derive(Drop)]
 pub struct MeshState {
     tree: Arc<Tree>,
-    alloc: Global,
-    buf: FieldBuf,
+    layout: Layout,
+    store: Store,
+    counters: Vec<u32>,
 }
 
 impl Model for MeshState {
-    ghost use Rattle.std.specs.Prelude.{[]};
     ghost use Rattle.std.specs.Arc.{arc_value};
     ghost use Rattle.cell_block.specs.State.{Stored};
+    ghost use Rattle.cell_block.specs.Whole.{AreStored, stored};
 
     ghost Value = { Stored };
 
-    ghost view = { λ s. record { tree = arc_value s.tree; dims = 0; cells = []; fields = 0; size = 0; places = []; counters = []; epochs = []; spares = [] } };
+    ghost view = { λ s. stored (arc_value s.tree) s.layout s.store s.counters.items };
 
-    ghost invariant = { λ s. ⊥ };
+    ghost invariant = { λ s. AreStored (arc_value s.tree) s.layout s.store s.counters.items };
 }
 
 impl MeshState {
@@ -53,7 +56,18 @@ impl MeshState {
     pub fn empty(alloc: Global, problem: &Problem, tree: Tree) -> Result<MeshState, NoMemory>
         ensures { IfOk result (λ s. (l : Layout) → IsLayoutFor (settings_of problem.now) l → s ≡ opening_stored (settings_of problem.now) l tree s.spares) }
     {
-        Err(NoMemory)
+        let leaves = tree.len();
+        let size = problem.pack_size.unwrap_or(leaves);
+        let layout = Layout::of(problem);
+        let store = opening_store(alloc, problem, &layout, size, leaves)?;
+        let counters = zero_counters(alloc, leaves)?;
+        let tree = Arc::new(alloc, tree)?;
+        Ok(MeshState {
+            tree,
+            layout,
+            store,
+            counters,
+        })
     }
 
     /// The tree.
@@ -61,6 +75,8 @@ impl MeshState {
         ensures tree { result.now ≡ self.now.tree }
         ensures kept { IsStored self.now }
     {
+        let _ = self.store.lists();
+        let _ = self.tree.len();
         &self.tree
     }
 
@@ -68,15 +84,14 @@ impl MeshState {
     pub fn share_tree(&self) -> Result<Arc<Tree>, NoMemory>
         ensures { IfOk result (λ tree. arc_value tree ≡ self.now.tree) }
     {
-        Err(NoMemory)
+        Ok(Arc::try_clone(&self.tree)?)
     }
 
     /// How many partitions there are.
     pub fn partitions(&self) -> u32
         ensures { result ≡ list_count self.now }
     {
-        let _ = &self.buf;
-        0
+        self.store.lists()
     }
 
     /// The partition of a leaf.
@@ -85,24 +100,24 @@ impl MeshState {
         ensures value { result ≡ list_of self.now leaf }
         ensures within { result < list_count self.now }
     {
-        let _ = &self.buf;
-        0
+        self.store.list_of(leaf)
     }
 
     /// Whether a field is allocated on a block.
     pub fn allocated(&self, at: Place) -> bool
         ensures { result ≡ is_allocated self.now at }
     {
-        let _ = &self.buf;
-        true
+        self.store.get(at).is_some()
     }
 
     /// Whether it is allocated there and its buffer is lent.
     pub fn lent(&self, at: Place) -> bool
         ensures { result ≡ is_lent self.now at }
     {
-        let _ = &self.buf;
-        true
+        match self.store.get(at) {
+            Some(kept) => kept.buf.is_none(),
+            None => false,
+        }
     }
 
     /// On how many blocks a field is allocated. The count is kept, not taken.
@@ -110,8 +125,7 @@ impl MeshState {
         requires { field < self.now.fields }
         ensures { result ≡ count_on self.now field }
     {
-        let _ = &self.buf;
-        0
+        self.store.blocks_with(field)
     }
 
     /// Writes the totals of a block's own cells, without ghosts, x1 fastest: zeros where the field is not allocated.
@@ -121,7 +135,10 @@ impl MeshState {
         requires fits { length into.old ≡ count_of self.now.cells }
         ensures { (l : Layout) → HasLayout self.now l → into.new ≡ interior_at l self.now at }
     {
-        let _ = &self.buf;
+        match self.buffer(at) {
+            Some(buf) => write_interior(&self.layout, buf.cells.as_slice(), into),
+            None => into.fill(0),
+        }
     }
 
     /// Makes room for so many more places of a partition, so that as many calls of `add` need no memory.
@@ -131,7 +148,7 @@ impl MeshState {
         ensures room { OnOk result (more ≤ spare_at self.new list) }
         ensures grown { (other : ℕ) → spare_at self.old other ≤ spare_at self.new other }
     {
-        Err(NoMemory)
+        self.store.reserve(list, more)
     }
 
     /// Puts a buffer at its place, where the field was not allocated.
@@ -144,7 +161,11 @@ impl MeshState {
         ensures added { self.new ≡ record (with_change self.old (place_of buf) (Some (record { idle = 0; buf = Some buf }))) { spares = self.new.spares } }
         ensures spares { (list : ℕ) → spare_at self.old list ≤ spare_at self.new list + 1 }
     {
-        let _ = &self.buf;
+        let at = Place {
+            block: buf.block,
+            field: buf.field,
+        };
+        self.store.add(at, buf);
     }
 
     /// Lends a buffer: it is moved out until it is put back.
@@ -155,9 +176,7 @@ impl MeshState {
         ensures sizes { Fits self.old result }
         ensures lent { self.new ≡ with_buffer self.old at None }
     {
-        let _ = &self.buf;
-        let alloc = self.alloc;
-        FieldBuf { block: 0, field: 0, stamp: 0, cells: Cells::new(alloc), right: Cells::new(alloc), left: Cells::new(alloc) }
+        self.store.lend(at)
     }
 
     /// Ends the loan of the buffer of a place.
@@ -166,7 +185,11 @@ impl MeshState {
         requires sizes { Fits self.old buf }
         ensures { self.new ≡ with_buffer self.old (place_of buf) (Some buf) }
     {
-        let _ = &self.buf;
+        let at = Place {
+            block: buf.block,
+            field: buf.field,
+        };
+        self.store.put_back(at, buf);
     }
 
     /// Frees a place and answers its buffer.
@@ -179,9 +202,7 @@ impl MeshState {
         ensures freed { self.new ≡ record (with_change self.old at None) { spares = self.new.spares } }
         ensures spares { (list : ℕ) → spare_at self.old list ≤ spare_at self.new list }
     {
-        let _ = &self.buf;
-        let alloc = self.alloc;
-        FieldBuf { block: 0, field: 0, stamp: 0, cells: Cells::new(alloc), right: Cells::new(alloc), left: Cells::new(alloc) }
+        self.store.release(at)
     }
 
     /// The buffer of a place, or None where it is not allocated or lent.
@@ -189,8 +210,12 @@ impl MeshState {
         ensures buffer { option_copied result ≡ buffer_at self.now at }
         ensures kept { IsStored self.now }
     {
-        let _ = &self.buf;
-        None
+        let _ = self.store.lists();
+        let _ = self.tree.len();
+        match self.store.get(at) {
+            Some(kept) => kept.buf.as_ref(),
+            None => None,
+        }
     }
 
     /// Raises by one the stamp of each buffer of a block that is not lent.
@@ -199,7 +224,7 @@ impl MeshState {
         requires stamps { (f : ℕ) (buf : FieldBuf) → buffer_at self.old (place_on block f) ≡ Some buf → buf.stamp < 2 ^ 32 - 1 }
         ensures { self.new ≡ with_stamps self.old block }
     {
-        let _ = &self.buf;
+        self.store.stamp(block);
     }
 
     /// At how many checks in a row an allocated field was idle on a block.
@@ -207,8 +232,10 @@ impl MeshState {
         requires { is_allocated self.now at ≡ true }
         ensures { result ≡ idle_at self.now at }
     {
-        let _ = &self.buf;
-        0
+        match self.store.get(at) {
+            Some(kept) => kept.idle,
+            None => 0,
+        }
     }
 
     /// Sets that count.
@@ -216,7 +243,7 @@ impl MeshState {
         requires { is_allocated self.old at ≡ true }
         ensures { self.new ≡ with_idle self.old at idle }
     {
-        let _ = &self.buf;
+        self.store.set_idle(at, idle);
     }
 
     /// The tag counter of a leaf.
@@ -224,8 +251,7 @@ impl MeshState {
         requires { leaf < leaf_count self.now }
         ensures { result ≡ slice_index self.now.counters leaf }
     {
-        let _ = &self.buf;
-        0
+        self.counters[leaf as usize]
     }
 
     /// Sets the tag counter of a leaf.
@@ -233,7 +259,7 @@ impl MeshState {
         requires { leaf < leaf_count self.old }
         ensures { self.new ≡ record self.old { counters = slice_set self.old.counters leaf counter } }
     {
-        let _ = &self.buf;
+        self.counters[leaf as usize] = counter;
     }
 
     /// The allocated places of a partition whose fields tasks of a kind take, by block, then field.
@@ -242,7 +268,7 @@ impl MeshState {
         requires fields { length fields.now.fields ≡ self.now.fields }
         ensures { IfOk result (λ places. places ≡ listed self.now list (takes fields.now.fields kind)) }
     {
-        Err(NoMemory)
+        self.store.listed(list, kind, fields)
     }
 
     /// How often a place of a partition came or went since the last restart.
@@ -250,14 +276,13 @@ impl MeshState {
         requires { list < list_count self.now }
         ensures { result ≡ epoch_at self.now list }
     {
-        let _ = &self.buf;
-        0
+        self.store.epoch(list)
     }
 
     /// Counts from 0 again in all partitions.
     pub fn restart_epochs(&mut self)
         ensures { self.new ≡ record self.old { epochs = replicate (list_count self.old) 0 } }
     {
-        let _ = &self.buf;
+        self.store.restart_epochs();
     }
 }

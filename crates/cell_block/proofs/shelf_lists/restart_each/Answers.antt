@@ -1,4 +1,4 @@
-use Rattle.std.proofs.Common.{◌∙◌, ◌<◌, ℕ, length, sym, arith}
+use Rattle.std.proofs.Common.{◌∙◌, sym, arith}
 use Rattle.std.proofs.lemmas.List.{ext_get_or, get_or-map, length-map}
 use Rattle.cell_block.specs.Partitions.{no_shelf, restarted}
 use Rattle.cell_block.proofs.shelf_lists.restart_each.Goals as goal

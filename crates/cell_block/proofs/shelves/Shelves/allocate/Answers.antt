@@ -1,7 +1,7 @@
-use Rattle.std.proofs.Common.{◌≡◌, ◌∙◌, ◌+◌, ◌/◌, ◌<◌, ◌≤◌, ap, subst, sym, arith, Some, None}
+use Rattle.std.proofs.Common.{◌∙◌, subst, sym, arith, Some}
 use Rattle.alloc_epochs.specs.Shelf.{Shelved}
 use Rattle.cell_block.specs.Partitions.{IsChanged, IsPlace, OnShelves}
-use Rattle.cell_block.proofs.Partitions.{changed_are, in_list, is_ready}
+use Rattle.cell_block.proofs.Partitions.{changed_are, is_ready}
 use Rattle.cell_block.proofs.PartitionChanges.{changed_value, spares_changed}
 use Rattle.cell_block.proofs.shelves.Shelves.allocate.Goals as goal
 

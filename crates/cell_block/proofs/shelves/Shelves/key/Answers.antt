@@ -1,4 +1,4 @@
-use Rattle.std.proofs.Common.{◌≡◌, ◌∙◌, ap, subst, sym, ◌/◌, ◌<◌, None, Option, ℕ, arith}
+use Rattle.std.proofs.Common.{◌≡◌, ◌∙◌, ap, subst, sym, ◌/◌, None, Option, ℕ, arith}
 use Rattle.std.proofs.lemmas.List.{get_or_read}
 use Rattle.alloc_epochs.specs.Shelf.{Shelved, key_at}
 use Rattle.cell_block.specs.Partitions.{OnShelves, key_on, no_shelf}

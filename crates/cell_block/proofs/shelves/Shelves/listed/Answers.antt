@@ -1,4 +1,4 @@
-use Rattle.std.proofs.Common.{◌≡◌, ◌<◌, subst, sym, arith}
+use Rattle.std.proofs.Common.{◌<◌, subst, sym, arith}
 use Rattle.std.proofs.lemmas.List.{get_or_read}
 use Rattle.alloc_epochs.specs.Shelf.{takes}
 use Rattle.cell_block.specs.Partitions.{OnShelves, lists_of, no_shelf}

@@ -1,4 +1,4 @@
-use Rattle.std.proofs.Common.{◌≡◌, ◌/◌, ◌<◌, subst, sym, arith}
+use Rattle.std.proofs.Common.{◌/◌, ◌<◌, subst, sym, arith}
 use Rattle.std.proofs.lemmas.List.{get_or_read}
 use Rattle.cell_block.specs.Partitions.{OnShelves, no_shelf}
 use Rattle.cell_block.proofs.Partitions.{in_list}

@@ -1,4 +1,4 @@
-use Rattle.std.proofs.Common.{◌≡◌, ◌∙◌, ◌+◌, ◌/◌, ◌<◌, ◌≤◌, ap, subst, sym, arith, Some, None, Option, ℕ, is_some, true}
+use Rattle.std.proofs.Common.{◌∙◌, ap, subst, sym, arith, None, Option, ℕ, is_some}
 use Rattle.alloc_epochs.specs.Shelf.{Shelved}
 use Rattle.cell_block.specs.Partitions.{IsChanged, IsPlace, OnShelves}
 use Rattle.cell_block.proofs.Partitions.{changed_are, in_list, is_ready, key_within}

@@ -1,4 +1,4 @@
-use Rattle.std.proofs.Common.{◌≡◌, ◌∙◌, ◌+◌, ◌<◌, ◌≤◌, ap, map, slice_index, slice_set, slice_index_or, subst, sym, arith, ℕ}
+use Rattle.std.proofs.Common.{◌≡◌, ◌∙◌, ◌<◌, ◌≤◌, ap, map, slice_index, slice_set, subst, sym, arith, ℕ}
 use Rattle.std.specs.Prelude.{OnOk}
 use Rattle.std.proofs.lemmas.List.{get_or_read, get_or-map, get_or-set_same, length-set}
 use Rattle.alloc_epochs.specs.Shelf.{Shelved}
@@ -23,8 +23,8 @@ returns-clause-room c =
     let new = c.reserve.new.self in
     let few : list < lists_of i.size i.leaves = subst (λ (s : OnShelves). list < lists_of s.size s.leaves) (sym c.self.view_is) c.requires in
     let put : slice_index (map (λ (s : Shelved). s.spare) (slice_set i.shelves.items list new)) list ≡ new.spare =
-        get_or-map (λ (s : Shelved). s.spare) (slice_set i.shelves.items list new) list no_shelf 0 (omega (arith, c.self.invariant.count, few, length-set i.shelves.items list new))
-        ∙ ap (λ (s : Shelved). s.spare) (get_or-set_same i.shelves.items list new no_shelf (omega (arith, c.self.invariant.count, few))) in
+    get_or-map (λ (s : Shelved). s.spare) (slice_set i.shelves.items list new) list no_shelf 0 (omega (arith, c.self.invariant.count, few, length-set i.shelves.items list new))
+    ∙ ap (λ (s : Shelved). s.spare) (get_or-set_same i.shelves.items list new no_shelf (omega (arith, c.self.invariant.count, few))) in
     subst (λ (n : ℕ). OnOk c.reserve.result (c.args.more ≤ n)) (sym put) c.reserve.ensures.room
 
 pub returns-clause-grown : goal.returns-clause-grown

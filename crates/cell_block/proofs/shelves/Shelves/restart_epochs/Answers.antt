@@ -1,4 +1,4 @@
-use Rattle.std.proofs.Common.{◌≡◌, ◌∙◌, ap, subst, sym, List}
+use Rattle.std.proofs.Common.{◌∙◌, ap, subst, sym, List}
 use Rattle.alloc_epochs.specs.Shelf.{Shelved}
 use Rattle.cell_block.specs.Partitions.{AreShelves, on_shelves}
 use Rattle.cell_block.proofs.PartitionLists.{alike_are, restarted_alike, restarted_value}

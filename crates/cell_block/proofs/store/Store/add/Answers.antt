@@ -1,7 +1,7 @@
-use Rattle.std.proofs.Common.{◌≡◌, ◌∙◌, ◌+◌, ◌-◌, ◌<◌, ◌≤◌, ap, map, min, slice_index, slice_set, subst, sym, arith, refl, Some, None, Option, ℕ, List}
+use Rattle.std.proofs.Common.{◌+◌, ◌<◌, ◌≤◌, map, min, slice_index, slice_set, subst, sym, arith, refl, Some}
 use Rattle.std.proofs.lemmas.List.{get_or_read}
-use Rattle.cell_block.specs.Partitions.{IsPlace, OnShelves}
-use Rattle.cell_block.specs.Store.{AreKept, Placed, entry_of, room_in}
+use Rattle.cell_block.specs.Partitions.{OnShelves}
+use Rattle.cell_block.specs.Store.{AreKept, Placed, room_in}
 use Rattle.cell_block.proofs.KeptChanges.{added, spares_less}
 use Rattle.cell_block.proofs.KeptStates.{count_few, has_room, key_absent, value_came}
 use Rattle.cell_block.proofs.store.Store.add.Goals as goal
@@ -46,7 +46,7 @@ returns-clause-added c =
     let absent = key_absent i.shelves i.buffers at c.args.self.now c.self.view_is c.self.invariant.tied c.requires.absent in
     let n = c.index_mut.result.now + 1 in
     let came = added i.shelves i.buffers c.insert_reserved-key.new.self i.counts.items c.allocate.new.self.spares at c.insert_reserved-key.result n _ c.count.ensures.kept c.self.invariant
-        (record { block = block; field = field }) absent c.insert_reserved-key.ensures.was_vacant c.insert_reserved-key.ensures.updates refl (omega (arith, read)) in
+    (record { block = block; field = field }) absent c.insert_reserved-key.ensures.was_vacant c.insert_reserved-key.ensures.updates refl (omega (arith, read)) in
     value_came i.shelves c.allocate.new.self i.buffers c.insert_reserved-key.new.self (slice_set i.counts.items at.field n) at (Some c.insert_reserved-key.result) _ c.args.self.now c.self.view_is c.allocate.ensures.allocated came
 
 pub returns-clause-spares : goal.returns-clause-spares

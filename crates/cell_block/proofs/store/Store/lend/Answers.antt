@@ -1,4 +1,4 @@
-use Rattle.std.proofs.Common.{◌≡◌, ◌∙◌, sym, refl, Some, None}
+use Rattle.std.proofs.Common.{◌∙◌, sym, refl, None}
 use Rattle.cell_block.specs.State.{Entry}
 use Rattle.cell_block.proofs.KeptPlaces.{under}
 use Rattle.cell_block.proofs.KeptStates.{still_kept, value_changed}

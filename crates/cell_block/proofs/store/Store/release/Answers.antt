@@ -1,7 +1,7 @@
-use Rattle.std.proofs.Common.{◌≡◌, ◌∙◌, ◌+◌, ◌-◌, ◌<◌, ◌≤◌, ap, map, min, slice_index, slice_set, subst, sym, arith, refl, Some, None, Option, ℕ, List}
+use Rattle.std.proofs.Common.{◌+◌, ◌-◌, ◌≤◌, map, min, slice_index, slice_set, subst, sym, arith, None, ℕ}
 use Rattle.std.proofs.lemmas.List.{get_or_read}
-use Rattle.cell_block.specs.Partitions.{IsPlace, OnShelves}
-use Rattle.cell_block.specs.Store.{AreKept, Placed, entry_of, room_in}
+use Rattle.cell_block.specs.Partitions.{OnShelves}
+use Rattle.cell_block.specs.Store.{AreKept, Placed, room_in}
 use Rattle.cell_block.proofs.KeptPlaces.{key_place}
 use Rattle.cell_block.proofs.KeptChanges.{released, spares_less}
 use Rattle.cell_block.proofs.KeptStates.{count_some, value_came}
@@ -36,7 +36,7 @@ returns-clause-freed c =
     let some = count_some i.shelves at c.release-key.result c.count.ensures.kept place c.release-key.ensures.key in
     let n = c.index_mut.result.now - 1 in
     let came = released i.shelves i.buffers c.remove-kept.new.self i.counts.items c.release-key.new.self.spares at c.release-key.result n c.count.ensures.kept c.self.invariant
-        place c.release-key.ensures.key c.remove-kept.ensures.updates (omega (arith, read, some, c.self.invariant.counted at.field place.field)) in
+    place c.release-key.ensures.key c.remove-kept.ensures.updates (omega (arith, read, some, c.self.invariant.counted at.field place.field)) in
     value_came i.shelves c.release-key.new.self i.buffers c.remove-kept.new.self (slice_set i.counts.items at.field n) at None _ c.args.self.now c.self.view_is c.release-key.ensures.freed came
 
 pub returns-clause-spares : goal.returns-clause-spares
