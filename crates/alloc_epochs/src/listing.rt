@@ -32,7 +32,9 @@ fn list_field(
     places: &mut Vec<Place>,
 ) -> Result<(), NoMemory>
     requires { at.field < length fields.now.fields }
-    ensures { OnOk result (places.new.items ≡ places.old.items ++ cond (is_some (key_in row.now at.field) && takes fields.now.fields kind at.field) (at ∷ []) []) }
+    ensures { OnOk result (places.new.items
+        ≡ places.old.items ++ cond (is_some (key_in row.now at.field) && takes fields.now.fields kind at.field)
+        (at ∷ []) []) }
 {
     if row.get(at.field as usize).is_some() && is_taken(kind, fields, at.field) {
         places.push(at)?;
@@ -51,7 +53,8 @@ pub fn list_row(
 ) -> Result<(), NoMemory>
     requires few { length fields.now.fields ≤ 256 }
     requires pages { length row.now ≡ pages_for (length fields.now.fields) }
-    ensures { OnOk result (places.new.items ≡ places.old.items ++ row_places row.now (takes fields.now.fields kind) block (length fields.now.fields)) }
+    ensures { OnOk result (places.new.items
+        ≡ places.old.items ++ row_places row.now (takes fields.now.fields kind) block (length fields.now.fields)) }
 {
     let count = fields.count();
     let mut field = 0;

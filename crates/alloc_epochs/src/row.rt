@@ -92,7 +92,8 @@ fn fill_in(page: &mut Page, pool: &mut Pool)
 fn clear_entry(page: &mut Page, entry: usize, pool: &mut Pool)
     requires { entry < 32 }
     ensures cleared { slice_index_or page.new entry None ≡ None }
-    ensures same { (other : ℕ) → other ≢ entry → slice_index_or page.new other None ≡ slice_index_or page.old other None }
+    ensures same { (other : ℕ) → other ≢ entry
+        → slice_index_or page.new other None ≡ slice_index_or page.old other None }
     ensures spare { pool.old ≤ pool.new }
 {
     if page.is_empty() {

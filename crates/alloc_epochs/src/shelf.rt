@@ -35,7 +35,14 @@ impl Model for Shelf {
 
     ghost Value = { Shelved };
 
-    ghost view = { λ s. record { first = s.first; fields = s.fields; keys = map (keys_in s.fields) s.rows.items; epoch = s.epoch; spare = s.pool } };
+    ghost view = { λ s. record {
+      first = s.first;
+      fields = s.fields;
+      keys = map
+          (keys_in s.fields) s.rows.items;
+      epoch = s.epoch;
+      spare = s.pool;
+    } };
 
     ghost invariant = { λ s. AreRows s.first s.fields s.rows.items };
 }
@@ -46,7 +53,14 @@ impl Shelf {
     pub fn new(alloc: Global, first: u32, blocks: u32, fields: u32) -> Result<Shelf, NoMemory>
         requires blocks { first + blocks ≤ 65536 }
         requires fields { fields ≤ 256 }
-        ensures { IfOk result (λ s. s ≡ record { first = first; fields = fields; keys = no_keys blocks fields; epoch = 0; spare = 0 }) }
+        ensures { IfOk result (λ s. s ≡ record {
+          first = first;
+          fields = fields;
+          keys = no_keys blocks fields;
+          epoch =
+              0;
+          spare = 0;
+        }) }
     {
         let pages = (fields as usize).div_ceil(PAGE_SIZE);
         let rows = make_rows(alloc, blocks as usize, pages)?;
@@ -116,7 +130,13 @@ impl Shelf {
         requires on { IsOn self.old at }
         requires absent { key_at self.old at ≡ None }
         requires epoch { self.old.epoch < 2 ^ 64 - 1 }
-        ensures allocated { OnOk result (self.new ≡ record self.old { keys = with_key self.old at (Some key); epoch = self.old.epoch + 1; spare = self.new.spare }) }
+        ensures allocated { OnOk result (self.new
+            ≡ record self.old {
+              keys = with_key self.old at (Some key);
+              epoch = self.old.epoch
+                  + 1;
+              spare = self.new.spare;
+            }) }
         ensures refused { OnErr result (self.new ≡ record self.old { spare = self.new.spare }) }
         ensures succeeds { 1 ≤ self.old.spare → IsOk result }
         ensures spare { self.old.spare ≤ self.new.spare + 1 }
@@ -134,7 +154,13 @@ impl Shelf {
     pub fn release(&mut self, at: Place) -> Option<usize>
         requires { IsSome (key_at self.old at) → self.old.epoch < 2 ^ 64 - 1 }
         ensures key { result ≡ key_at self.old at }
-        ensures released { OnSome result (self.new ≡ record self.old { keys = with_key self.old at None; epoch = self.old.epoch + 1; spare = self.new.spare }) }
+        ensures released { OnSome result (self.new
+            ≡ record self.old {
+              keys = with_key self.old at None;
+              epoch = self.old.epoch
+                  + 1;
+              spare = self.new.spare;
+            }) }
         ensures absent { IfNone result (self.new ≡ self.old) }
         ensures spare { self.old.spare ≤ self.new.spare }
     {

@@ -26,7 +26,8 @@ pub struct Kept {
 pub fn lend(buffers: &mut Slab<Kept>, key: usize) -> FieldBuf
     requires { IsSome (buf_under buffers.old key) }
     ensures buffer { buf_under buffers.old key ≡ Some result }
-    ensures lent { (kept : Kept) → get buffers.old key ≡ Some kept → buffers.new ≡ with_value buffers.old key (record kept { buf = None }) }
+    ensures lent { (kept : Kept) → get buffers.old key ≡ Some kept
+        → buffers.new ≡ with_value buffers.old key (record kept { buf = None }) }
 {
     let kept = buffers.get_mut(key).unwrap();
     kept.buf.take().unwrap()
@@ -35,7 +36,8 @@ pub fn lend(buffers: &mut Slab<Kept>, key: usize) -> FieldBuf
 /// Puts a buffer under a key.
 pub fn put(buffers: &mut Slab<Kept>, key: usize, buf: FieldBuf)
     requires { ContainsKey buffers.old key }
-    ensures { (kept : Kept) → get buffers.old key ≡ Some kept → buffers.new ≡ with_value buffers.old key (record kept { buf = Some buf }) }
+    ensures { (kept : Kept) → get buffers.old key ≡ Some kept
+        → buffers.new ≡ with_value buffers.old key (record kept { buf = Some buf }) }
 {
     let kept = buffers.get_mut(key).unwrap();
     kept.buf = Some(buf);
@@ -44,7 +46,8 @@ pub fn put(buffers: &mut Slab<Kept>, key: usize, buf: FieldBuf)
 /// Sets the idle count under a key.
 pub fn set_idle(buffers: &mut Slab<Kept>, key: usize, idle: u32)
     requires { ContainsKey buffers.old key }
-    ensures { (kept : Kept) → get buffers.old key ≡ Some kept → buffers.new ≡ with_value buffers.old key (record kept { idle = idle }) }
+    ensures { (kept : Kept) → get buffers.old key ≡ Some kept
+        → buffers.new ≡ with_value buffers.old key (record kept { idle = idle }) }
 {
     let kept = buffers.get_mut(key).unwrap();
     kept.idle = idle;
@@ -64,7 +67,8 @@ fn stamp(buf: &mut Option<FieldBuf>)
 pub fn stamp_under(buffers: &mut Slab<Kept>, key: usize)
     requires present { ContainsKey buffers.old key }
     requires stamp { ForSome (buf_under buffers.old key) (λ buf. buf.stamp < 2 ^ 32 - 1) }
-    ensures { (kept : Kept) → get buffers.old key ≡ Some kept → buffers.new ≡ with_value buffers.old key (stamped_kept kept) }
+    ensures { (kept : Kept) → get buffers.old key ≡ Some kept
+        → buffers.new ≡ with_value buffers.old key (stamped_kept kept) }
 {
     let kept = buffers.get_mut(key).unwrap();
     stamp(&mut kept.buf);

@@ -35,7 +35,8 @@ fn add_zeros(alloc: Global, layout: &Layout, at: Place, store: &mut Store) -> Re
     requires field { at.field < store.old.fields }
     requires absent { entry_in store.old.places at ≡ None }
     requires epochs { (list : ℕ) → slice_index store.old.epochs list < 2 ^ 64 - 1 }
-    ensures { OnOk result (store.new ≡ record (with_come store.old at (Some (zero_entry layout.now at.block at.field))) { spares = store.new.spares }) }
+    ensures { OnOk result (store.new ≡ record
+        (with_come store.old at (Some (zero_entry layout.now at.block at.field))) { spares = store.new.spares }) }
 {
     let list = store.list_of(at.block);
     store.reserve(list, 1)?;
@@ -77,8 +78,10 @@ fn open_field(
     requires field { field < field_count (settings_of problem.now) }
     requires few { field ≤ 256 }
     requires leaves { leaves ≤ 65536 }
-    requires opened { AreOpened (settings_of problem.now) layout.now leaves (field_count (settings_of problem.now)) field store.old }
-    ensures opened { OnOk result (AreOpened (settings_of problem.now) layout.now leaves (field_count (settings_of problem.now)) (field + 1) store.new) }
+    requires opened { AreOpened (settings_of problem.now) layout.now leaves
+        (field_count (settings_of problem.now)) field store.old }
+    ensures opened { OnOk result (AreOpened (settings_of problem.now) layout.now leaves
+        (field_count (settings_of problem.now)) (field + 1) store.new) }
     ensures size { OnOk result (store.new.size ≡ store.old.size) }
 {
     if is_sparse(problem, field) {

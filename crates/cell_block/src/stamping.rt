@@ -10,8 +10,8 @@ use crate::kept::{Kept, stamp_under};
 use crate::shelves::Shelves;
 use slab::Slab;
 
-/// Raises by one the stamp of each buffer of a block that is not lent: a step for each place of the block that is allocated, and
-/// for each page of 32 fields.
+/// Raises by one the stamp of each buffer of a block that is not lent: a step for each place of the block that is
+/// allocated, and for each page of 32 fields.
 pub fn stamp_block(shelves: &Shelves, buffers: &mut Slab<Kept>, block: u32)
     requires block { block < shelves.now.leaves }
     requires shape { IsOnShelves shelves.now }

@@ -27,8 +27,8 @@ use std::sync::Arc;
 
 /// A mesh as it is stored: its tree, and for each field and block what is kept where the field is allocated.
 ///
-/// The leaves are divided, by their numbers, into partitions of equal size, the last of which may be smaller. Memory goes to
-/// allocated places and to leaves, not to each field of each leaf.
+/// The leaves are divided, by their numbers, into partitions of equal size, the last of which may be smaller. Memory
+/// goes to allocated places and to leaves, not to each field of each leaf.
 #[derive(Drop)]
 pub struct MeshState {
     tree: Arc<Tree>,
@@ -54,7 +54,8 @@ impl MeshState {
     ///
     /// Stamps, idle counts, tag counters and epochs are 0.
     pub fn empty(alloc: Global, problem: &Problem, tree: Tree) -> Result<MeshState, NoMemory>
-        ensures { IfOk result (λ s. (l : Layout) → IsLayoutFor (settings_of problem.now) l → s ≡ opening_stored (settings_of problem.now) l tree s.spares) }
+        ensures { IfOk result (λ s. (l : Layout) → IsLayoutFor (settings_of problem.now) l
+            → s ≡ opening_stored (settings_of problem.now) l tree s.spares) }
     {
         let leaves = tree.len();
         let size = problem.pack_size.unwrap_or(leaves);
@@ -158,7 +159,8 @@ impl MeshState {
         requires room { 1 ≤ spare_at self.old (list_of self.old buf.block) }
         requires epoch { epoch_at self.old (list_of self.old buf.block) < 2 ^ 64 - 1 }
         requires sizes { Fits self.old buf }
-        ensures added { self.new ≡ record (with_change self.old (place_of buf) (Some (record { idle = 0; buf = Some buf }))) { spares = self.new.spares } }
+        ensures added { self.new ≡ record (with_change self.old (place_of buf)
+            (Some (record { idle = 0; buf = Some buf }))) { spares = self.new.spares } }
         ensures spares { (list : ℕ) → spare_at self.old list ≤ spare_at self.new list + 1 }
     {
         let at = Place {
@@ -221,7 +223,8 @@ impl MeshState {
     /// Raises by one the stamp of each buffer of a block that is not lent.
     pub fn raise_stamp(&mut self, block: u32)
         requires within { block < leaf_count self.old }
-        requires stamps { (f : ℕ) (buf : FieldBuf) → buffer_at self.old (place_on block f) ≡ Some buf → buf.stamp < 2 ^ 32 - 1 }
+        requires stamps { (f : ℕ) (buf : FieldBuf) → buffer_at self.old (place_on block f) ≡ Some buf
+            → buf.stamp < 2 ^ 32 - 1 }
         ensures { self.new ≡ with_stamps self.old block }
     {
         self.store.stamp(block);

@@ -97,7 +97,8 @@ impl Store {
         requires absent { entry_in self.old.places at ≡ None }
         requires room { 1 ≤ slice_index self.old.spares (at.block / self.old.size) }
         requires epoch { slice_index self.old.epochs (at.block / self.old.size) < 2 ^ 64 - 1 }
-        ensures added { self.new ≡ record (with_come self.old at (Some (record { idle = 0; buf = Some buf }))) { spares = self.new.spares } }
+        ensures added { self.new ≡ record (with_come self.old at
+            (Some (record { idle = 0; buf = Some buf }))) { spares = self.new.spares } }
         ensures spares { (list : ℕ) → slice_index self.old.spares list ≤ slice_index self.new.spares list + 1 }
     {
         let _ = self.shelves.count();
@@ -160,7 +161,8 @@ impl Store {
     /// Raises by one the stamp of each buffer of a block that is not lent.
     pub fn stamp(&mut self, block: u32)
         requires within { block < self.old.leaves }
-        requires stamps { (f : ℕ) (buf : FieldBuf) → buffer_in self.old.places (place_on block f) ≡ Some buf → buf.stamp < 2 ^ 32 - 1 }
+        requires stamps { (f : ℕ) (buf : FieldBuf) → buffer_in self.old.places (place_on block f) ≡ Some buf
+            → buf.stamp < 2 ^ 32 - 1 }
         ensures { self.new ≡ record self.old { places = stamps_raised self.old.places block } }
     {
         let _ = self.shelves.count();

@@ -1,8 +1,9 @@
 //! The kernels of a cycle on a mesh, as the machine of sparse buffers reads them.
 //!
-//! A block is a leaf of the mesh, by its number; a letter is an exchange between two leaves across a side. What a field has on a block
-//! is the list of its own totals, its ghosts in a list of the block with ghosts, and what passes its faces. Each kernel of one block
-//! (ghosts, fluxes, corrections, updates, reactions, wishes) stands here as a function of lists, in the words of its own crate.
+//! A block is a leaf of the mesh, by its number; a letter is an exchange between two leaves across a side. What a
+//! field has on a block is the list of its own totals, its ghosts in a list of the block with ghosts, and what passes
+//! its faces. Each kernel of one block (ghosts, fluxes, corrections, updates, reactions, wishes) stands here as a
+//! function of lists, in the words of its own crate.
 //!
 //! | File of `specs/` | What a reader has to believe |
 //! |---|---|

@@ -39,7 +39,8 @@ impl<T> Model for Tables<T> {
 
     ghost view = { λ t. protocol_of t.tasks.rounds t.tasks.tail t.lists.items t.wire.posts t.mail.items };
 
-    ghost invariant = { λ t. IsTables t.tasks.rounds t.tasks.tail t.lists.items t.wire.posts t.mail.items t.ready t.past t.left t.leased };
+    ghost invariant = { λ t. IsTables t.tasks.rounds t.tasks.tail t.lists.items t.wire.posts t.mail.items t.ready
+        t.past t.left t.leased };
 }
 
 impl<T> Tables<T> {
@@ -161,8 +162,8 @@ impl<T> Tables<T> {
         )
     }
 
-    /// The task of a list that is out is given, with the letters that it sends. Where there is no memory for the letters they
-    /// are handed back, and the tables are as before; with no letter it takes none.
+    /// The task of a list that is out is given, with the letters that it sends. Where there is no memory for the
+    /// letters they are handed back, and the tables are as before; with no letter it takes none.
     pub fn give(&mut self, list: u32, letters: Vec<Post<T>>) -> Result<(), Vec<Post<T>>>
     where
         T: Drop,

@@ -33,8 +33,12 @@ fn pass_open<S: Start, P: Portions, Q: Portions>(
     requires new_list { length into.old ≡ len layout.now }
     requires rights { All (λ t. t ≤ P.greatest right) cells.now }
     requires lefts { All (λ t. t ≤ Q.greatest left) cells.now }
-    requires passes { CanPassLayers (axis_pass layout.now axis closed.now cells.now (S.begins start) (P.rate right) (P.denominator right) (Q.rate left) (Q.denominator left)) (first_open closed.now axis) (end_open layout.now closed.now axis) into.old }
-    ensures { HasLayers (after_axis (axis_pass layout.now axis closed.now cells.now (S.begins start) (P.rate right) (P.denominator right) (Q.rate left) (Q.denominator left))) layout.now axis (first_open closed.now axis) (end_open layout.now closed.now axis) into.old into.new }
+    requires passes { CanPassLayers (axis_pass layout.now axis closed.now cells.now (S.begins start) (P.rate right)
+        (P.denominator right) (Q.rate left) (Q.denominator left)) (first_open closed.now axis)
+        (end_open layout.now closed.now axis) into.old }
+    ensures { HasLayers (after_axis (axis_pass layout.now axis closed.now cells.now (S.begins start) (P.rate right)
+        (P.denominator right) (Q.rate left) (Q.denominator left))) layout.now axis (first_open closed.now axis)
+        (end_open layout.now closed.now axis) into.old into.new }
 {
     let from = closed_layers(closed[2 * axis as usize]);
     let above = closed_layers(closed[2 * axis as usize + 1]);
@@ -65,8 +69,11 @@ fn pass_low<S: Start, P: Portions, Q: Portions>(
     requires new_list { length into.old ≡ len layout.now }
     requires rights { All (λ t. t ≤ P.greatest right) cells.now }
     requires lefts { All (λ t. t ≤ Q.greatest left) cells.now }
-    requires passes { CanPassLayers (axis_pass layout.now axis closed.now cells.now (S.begins start) (P.rate right) (P.denominator right) (Q.rate left) (Q.denominator left)) 0 (first_open closed.now axis) into.old }
-    ensures { HasLayers (after_axis (axis_pass layout.now axis closed.now cells.now (S.begins start) (P.rate right) (P.denominator right) (Q.rate left) (Q.denominator left))) layout.now axis 0 (first_open closed.now axis) into.old into.new }
+    requires passes { CanPassLayers (axis_pass layout.now axis closed.now cells.now (S.begins start) (P.rate right)
+        (P.denominator right) (Q.rate left) (Q.denominator left)) 0 (first_open closed.now axis) into.old }
+    ensures { HasLayers (after_axis (axis_pass layout.now axis closed.now cells.now (S.begins start) (P.rate right)
+        (P.denominator right) (Q.rate left) (Q.denominator left))) layout.now axis 0
+        (first_open closed.now axis) into.old into.new }
 {
     if closed[2 * axis as usize] {
         let shut = Still { denominator: 1 };
@@ -97,8 +104,12 @@ fn pass_high<S: Start, P: Portions, Q: Portions>(
     requires new_list { length into.old ≡ len layout.now }
     requires rights { All (λ t. t ≤ P.greatest right) cells.now }
     requires lefts { All (λ t. t ≤ Q.greatest left) cells.now }
-    requires passes { CanPassLayers (axis_pass layout.now axis closed.now cells.now (S.begins start) (P.rate right) (P.denominator right) (Q.rate left) (Q.denominator left)) (end_open layout.now closed.now axis) (cells_along layout.now axis) into.old }
-    ensures { HasLayers (after_axis (axis_pass layout.now axis closed.now cells.now (S.begins start) (P.rate right) (P.denominator right) (Q.rate left) (Q.denominator left))) layout.now axis (end_open layout.now closed.now axis) (cells_along layout.now axis) into.old into.new }
+    requires passes { CanPassLayers (axis_pass layout.now axis closed.now cells.now (S.begins start) (P.rate right)
+        (P.denominator right) (Q.rate left) (Q.denominator left)) (end_open layout.now closed.now axis)
+        (cells_along layout.now axis) into.old }
+    ensures { HasLayers (after_axis (axis_pass layout.now axis closed.now cells.now (S.begins start) (P.rate right)
+        (P.denominator right) (Q.rate left) (Q.denominator left))) layout.now axis
+        (end_open layout.now closed.now axis) (cells_along layout.now axis) into.old into.new }
 {
     if closed[2 * axis as usize + 1] {
         let shut = Still { denominator: 1 };
@@ -130,8 +141,11 @@ pub(crate) fn pass_axis<S: Start, P: Portions, Q: Portions>(
     requires new_list { length into.old ≡ len layout.now }
     requires rights { All (λ t. t ≤ P.greatest right) cells.now }
     requires lefts { All (λ t. t ≤ Q.greatest left) cells.now }
-    requires passes { CanPassLayers (axis_pass layout.now axis closed.now cells.now (S.begins start) (P.rate right) (P.denominator right) (Q.rate left) (Q.denominator left)) 0 (cells_along layout.now axis) into.old }
-    ensures { HasLayers (after_axis (axis_pass layout.now axis closed.now cells.now (S.begins start) (P.rate right) (P.denominator right) (Q.rate left) (Q.denominator left))) layout.now axis 0 (cells_along layout.now axis) into.old into.new }
+    requires passes { CanPassLayers (axis_pass layout.now axis closed.now cells.now (S.begins start) (P.rate right)
+        (P.denominator right) (Q.rate left) (Q.denominator left)) 0 (cells_along layout.now axis) into.old }
+    ensures { HasLayers (after_axis (axis_pass layout.now axis closed.now cells.now (S.begins start) (P.rate right)
+        (P.denominator right) (Q.rate left) (Q.denominator left))) layout.now axis 0
+        (cells_along layout.now axis) into.old into.new }
 {
     pass_open(layout, axis, start, right, left, closed, cells, into);
     pass_low(layout, axis, start, right, left, closed, cells, into);

@@ -12,13 +12,14 @@ use crate::tiers::pass_along;
 use block_layout::Layout;
 use upwind_fluxes::{Donor, LevelRates, Multipliers, greatest_bits};
 
-/// Writes the totals of the interior cells of a block after a stage by the upwind rule of the first order: each cell gains
-/// what comes in through its faces and loses what goes out, each the portion of the paying cell's total, floored; nothing
-/// passes a closed side. It is what `fluxes` and `update` of `transport_kernel` make of the same cells.
+/// Writes the totals of the interior cells of a block after a stage by the upwind rule of the first order: each cell
+/// gains what comes in through its faces and loses what goes out, each the portion of the paying cell's total,
+/// floored; nothing passes a closed side. It is what `fluxes` and `update` of `transport_kernel` make of the same
+/// cells.
 ///
-/// `cells` has the ghosts filled. `into` has a place for each cell and ghost too; its ghosts stay as they are. `closed` is in
-/// the order x1 low, x1 high, x2 low, x2 high, x3 low, x3 high. The multipliers are made once for a field and a level, and
-/// serve any number of blocks. No cell may pay more than it has.
+/// `cells` has the ghosts filled. `into` has a place for each cell and ghost too; its ghosts stay as they are.
+/// `closed` is in the order x1 low, x1 high, x2 low, x2 high, x3 low, x3 high. The multipliers are made once for a
+/// field and a level, and serve any number of blocks. No cell may pay more than it has.
 pub fn stage(
     layout: &Layout,
     rates: &LevelRates,

@@ -56,7 +56,8 @@ pub(crate) fn pass_layers<R: RowRule>(
     requires some { 1 ≤ depth }
     requires within { from + depth ≤ cells_along layout.now axis }
     requires taken { TakesLayers (R.takes op.now) layout.now axis from (from + depth) cells.now into.old }
-    ensures { HasLayers (λ own i. R.gives op.now (beside_numbers layout.now axis cells.now own i)) layout.now axis from (from + depth) into.old into.new }
+    ensures { HasLayers (λ own i. R.gives op.now (beside_numbers layout.now axis cells.now own i)) layout.now axis
+        from (from + depth) into.old into.new }
 {
     let below = layers_from(layout, axis, from + 1);
     let here = layers_from(layout, axis, from + 2);

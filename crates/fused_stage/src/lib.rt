@@ -1,8 +1,8 @@
 //! A stage on one block from its cells and ghosts alone.
 //!
-//! [`stage`] makes the next totals of the interior cells of a block by the upwind rule of the first order, as the fluxes and
-//! the update of `transport_kernel` do, but lists nothing of what passes the faces: each cell takes the portions of its
-//! neighbours and gives its own. It serves where no one reads what passes the faces.
+//! [`stage`] makes the next totals of the interior cells of a block by the upwind rule of the first order, as the
+//! fluxes and the update of `transport_kernel` do, but lists nothing of what passes the faces: each cell takes the
+//! portions of its neighbours and gives its own. It serves where no one reads what passes the faces.
 #![tactic(auto)]
 
 mod axis;

@@ -8,11 +8,12 @@ use crate::start::Start;
 use row_updates::RowRule;
 use upwind_portions::Portions;
 
-/// A row of new totals: the first row beside it is that of the cells below along the axis, the second and the third are the
-/// cells themselves, the fourth the cells above. Through a closed face nothing is paid, which a rate of 0 says.
+/// A row of new totals: the first row beside it is that of the cells below along the axis, the second and the third
+/// are the cells themselves, the fourth the cells above. Through a closed face nothing is paid, which a rate of 0
+/// says.
 ///
-/// `from_below` is what the cells below pay through the low faces, `from_above` what those above pay through the high ones,
-/// `to_below` and `to_above` what the cells themselves pay.
+/// `from_below` is what the cells below pay through the low faces, `from_above` what those above pay through the high
+/// ones, `to_below` and `to_above` what the cells themselves pay.
 #[derive(Clone, Copy, Debug)]
 pub(crate) struct NeighbourPass<S, A, B, C, D> {
     pub(crate) start: S,

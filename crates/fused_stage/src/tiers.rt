@@ -27,8 +27,11 @@ fn pass_right<S: Start, P: Portions>(
     requires bound { All (λ t. t ≤ greatest) cells.now }
     requires small { greatest < 2 ^ 62 }
     requires rights { All (λ t. t ≤ P.greatest right) cells.now }
-    requires passes { CanPassLayers (axis_pass layout.now axis closed.now cells.now (S.begins start) (P.rate right) (P.denominator right) left.now.rate left.now.denominator) 0 (cells_along layout.now axis) into.old }
-    ensures { HasLayers (after_axis (axis_pass layout.now axis closed.now cells.now (S.begins start) (P.rate right) (P.denominator right) left.now.rate left.now.denominator)) layout.now axis 0 (cells_along layout.now axis) into.old into.new }
+    requires passes { CanPassLayers (axis_pass layout.now axis closed.now cells.now (S.begins start) (P.rate right)
+        (P.denominator right) left.now.rate left.now.denominator) 0 (cells_along layout.now axis) into.old }
+    ensures { HasLayers (after_axis (axis_pass layout.now axis closed.now cells.now (S.begins start) (P.rate right)
+        (P.denominator right) left.now.rate left.now.denominator)) layout.now axis 0
+        (cells_along layout.now axis) into.old into.new }
 {
     match left.tier(greatest) {
         Tier::Nothing(portions) => pass_axis(
@@ -61,8 +64,12 @@ pub(crate) fn pass_along<S: Start>(
     requires new_list { length into.old ≡ len layout.now }
     requires bound { All (λ t. t ≤ greatest) cells.now }
     requires small { greatest < 2 ^ 62 }
-    requires passes { CanPassLayers (axis_pass layout.now axis closed.now cells.now (S.begins start) right.now.rate right.now.denominator left.now.rate left.now.denominator) 0 (cells_along layout.now axis) into.old }
-    ensures { HasLayers (after_axis (axis_pass layout.now axis closed.now cells.now (S.begins start) right.now.rate right.now.denominator left.now.rate left.now.denominator)) layout.now axis 0 (cells_along layout.now axis) into.old into.new }
+    requires passes { CanPassLayers (axis_pass layout.now axis closed.now cells.now
+        (S.begins start) right.now.rate right.now.denominator left.now.rate left.now.denominator) 0
+        (cells_along layout.now axis) into.old }
+    ensures { HasLayers (after_axis (axis_pass layout.now axis closed.now cells.now
+        (S.begins start) right.now.rate right.now.denominator left.now.rate left.now.denominator)) layout.now axis 0
+        (cells_along layout.now axis) into.old into.new }
 {
     match right.tier(greatest) {
         Tier::Nothing(portions) => pass_right(
