@@ -1,13 +1,12 @@
 -- A letter is delivered, and a cycle begins: what the tables show.
-use Rattle.std.proofs.Common.{◌≡◌, ◌≢◌, ◌⊎◌, ◌∙◌, sym, ap, subst, refl, inl, inr, ℕ, ◌+◌, ◌*◌, ◌/◌, ◌%◌, ◌<◌, ◌≤◌, ◌==◌, Bool, true, false, cond, ◌&&◌, nat_lt, Option, Some, None, is_some, List, [], ◌∷◌, ◌++◌, length, map, replicate, count_by, slice_index_or, slice_set, arith}
+use Rattle.std.proofs.Common.{◌≡◌, ◌≢◌, ◌⊎◌, ◌∙◌, sym, ap, subst, refl, inl, inr, ℕ, ◌+◌, ◌<◌, true, false, cond, Option, Some, None, List, [], ◌∷◌, ◌++◌, length, map, replicate, slice_index_or, slice_set, arith}
 use Rattle.std.specs.List.{AllZip}
-use Rattle.std.proofs.lemmas.Bool.{and_parts, cases_eq, eqb-true, false_from_ne_true}
+use Rattle.std.proofs.lemmas.Bool.{cases_eq, false_from_ne_true}
 use Rattle.std.proofs.lemmas.List.{get_or-map, get_or-replicate, length-map, length-replicate, length-set}
-use Rattle.cycle_rounds.specs.Plan.{IsPlan, Plan, is_reading, round_tasks}
-use Rattle.cycle_rounds.specs.Events.{Letter, Machine, State, begin, delivered, is_for, is_of, step}
+use Rattle.cycle_rounds.specs.Plan.{IsPlan, Plan}
+use Rattle.cycle_rounds.specs.Events.{Letter, Machine, State, begin, delivered, is_for, step}
 use Rattle.cycle_rounds.specs.Events.Event.{deliver}
-use Rattle.cycle_rounds.proofs.Lists.{any_count, count_without, one_if}
-use Rattle.cycle_rounds.proofs.Orderly.{Orderly, Somewhere, due_count, for_is, is_for_from, on_way, own_test, somewhere}
+use Rattle.cycle_rounds.proofs.Orderly.{Orderly, for_is, is_for_from}
 use Rattle.cycle_rounds.proofs.Ready.{come_most}
 use Rattle.cycle_tables.specs.declared.letter.Letter.{Letter as Posted}
 use Rattle.cycle_tables.specs.declared.list_state.Due.{Due}
@@ -16,6 +15,7 @@ use Rattle.cycle_tables.specs.Tables.{HasPlace, Protocol, at_start, begun, deliv
 use Rattle.cycle_tables.proofs.Entries.{not_there, still_there}
 use Rattle.cycle_table_laws.specs.Shows.{Shows, StandsFor, in_mailbox, went_out}
 use Rattle.cycle_table_laws.specs.Laws.{DeliversAs, IsDueOf}
+use Rattle.cycle_table_laws.proofs.Leases.{not_yet_out, under_way}
 use Rattle.cycle_table_laws.proofs.Readies.{box_count, not_out}
 use Rattle.cycle_table_laws.proofs.Takings.{mail_other, mail_rows, mail_same, on_wire_counted}
 use Rattle.cycle_table_laws.proofs.Wires.{TakenOff, taken_off}
@@ -28,43 +28,20 @@ module _ {X L P T : Type 0} (p : Plan X) (plan : IsPlan p) (m : Machine X L P) (
   abbrev letter : Letter X P
   letter = off.letter
 
-  on_wire_once : 1 ≤ count_by (is_of p letter.round letter.of) s.wire
-  on_wire_once =
-      let c = count_without k (is_of p letter.round letter.of) letter s.wire off.found in
-      let one = one_if (is_of p letter.round letter.of letter) (own_test p plan letter) in omega arith
-
-  under_way : Somewhere p s letter.round letter.of
-  under_way = somewhere p s o letter.round letter.of (let a = on_wire_once in omega arith)
-
   list : l.to < p.lists
-  list = let a = plan.reader letter.round letter.of under_way.due in let b = off.stands.to in omega arith
+  list = let a = plan.reader letter.round letter.of (under_way p plan s o k letter off.found).due in let b = off.stands.to in omega arith
 
   round : l.round < p.rounds
-  round = let a = under_way.way.round in let b = off.stands.round in omega arith
+  round = let a = (under_way p plan s o k letter off.found).way.round in let b = off.stands.round in omega arith
 
-  cond_most : (b : Bool) (n : ℕ) → n ≤ 1 → cond b n 0 ≤ 1
-  cond_most true n e = e
-  cond_most false n e = omega arith
-
-  -- the letters of its round did not go out yet: it would be twice there
-  not_yet_out : went_out p s l.to l.round ≡ false
-  not_yet_out = false_from_ne_true (went_out p s l.to l.round) (λ e.
-      let a = and_parts (is_some (s.out l.to)) (is_reading p (s.given l.to) && s.given l.to / 3 == l.round) e in
-      let b = and_parts (is_reading p (s.given l.to)) (s.given l.to / 3 == l.round) a.1 in
-      let c = and_parts (nat_lt (s.given l.to) (round_tasks p)) (s.given l.to % 3 == 1) b.0 in
-      let third = eqb-true (s.given l.to / 3) l.round b.1 in
-      let rest = eqb-true (s.given l.to % 3) 1 c.1 in
-      let at : s.given (p.to letter.of) ≡ 3 * letter.round + 1 = ap s.given (sym off.stands.to) ∙ (let r = off.stands.round in omega arith) in
-      let there = o.come letter.round letter.of under_way.way.round under_way.due at (ap (λ j. is_some (s.out j)) (sym off.stands.to) ∙ a.0) in
-      let twice = any_count (is_of p letter.round letter.of) s.mail there in
-      let place = o.place letter.round letter.of in
-      let once = cond_most (on_way p.rounds letter.round (s.given (p.from letter.of)) (s.given (p.to letter.of))) (due_count p letter.round letter.of) (plan.once letter.round letter.of) in
-      let one = on_wire_once in
-      omega arith)
+  -- the letters of its round did not go out yet
+  not_out_yet : went_out p s l.to l.round ≡ false
+  not_out_yet =
+      subst (λ j. went_out p s j l.round ≡ false) (sym off.stands.to) (subst (λ r. went_out p s (p.to letter.of) r ≡ false) (sym off.stands.round) (not_yet_out p plan s o k letter off.found))
 
   place : HasPlace v l
   place =
-      let a = box_count p R s v h l.to l.round list round not_yet_out in
+      let a = box_count p R s v h l.to l.round list round not_out_yet in
       let b = h.plan.due l.to l.round list round in
       let c = come_most p plan s o l.round l.to in
       let d = on_wire_counted p R s v h k l is in
@@ -92,7 +69,7 @@ module _ {X L P T : Type 0} (p : Plan X) (plan : IsPlan p) (m : Machine X L P) (
       (subst (λ r. AllZip (StandsFor p R) (letters_at (with_mail v.mail l.to l.round (mail_of v l.to l.round ++ l ∷ [])) l.to r) (in_mailbox p (delivered p m s k (Some letter)) l.to r)) (sym f)
       (zip_as (StandsFor p R) (mail_of v l.to l.round ++ l ∷ []) (letters_at (with_mail v.mail l.to l.round (mail_of v l.to l.round ++ l ∷ [])) l.to l.round) (in_mailbox p s l.to l.round ++ letter ∷ []) (in_mailbox p (delivered p m s k (Some letter)) l.to l.round)
       (mail_same v.mail l.to l.round (mail_of v l.to l.round ++ l ∷ []) in_mail in_row)
-      (not_out p (delivered p m s k (Some letter)) l.to l.round not_yet_out ∙ filter_push_yes (is_for p l.round l.to) s.mail letter for_it ∙ ap (λ (ls : List (Letter X P)). ls ++ letter ∷ []) (sym (not_out p s l.to l.round not_yet_out)))
+      (not_out p (delivered p m s k (Some letter)) l.to l.round not_out_yet ∙ filter_push_yes (is_for p l.round l.to) s.mail letter for_it ∙ ap (λ (ls : List (Letter X P)). ls ++ letter ∷ []) (sym (not_out p s l.to l.round not_out_yet)))
       (zip_append (StandsFor p R) (mail_of v l.to l.round) (in_mailbox p s l.to l.round) (l ∷ []) (letter ∷ []) (h.mail l.to l.round list round) (off.stands, tt))))
   mail_next j q a b (inl e) (inr ne) = other j q a b (λ _ f. ne f)
   mail_next j q a b (inr ne) either = other j q a b (λ f _. ne f)

@@ -19,9 +19,10 @@ use Rattle.cycle_tables.specs.Tables.{GoesTo, Protocol, due_in, given, mail_of, 
 use Rattle.cycle_tables.proofs.Posts.{length_numbered}
 use Rattle.cycle_table_laws.specs.Shows.{Shows, StandsFor, WillStandFor, in_mailbox, on_wire, went_out}
 use Rattle.cycle_table_laws.specs.Laws.{GivesAs}
+use Rattle.cycle_table_laws.proofs.Leases.{left_letters}
 use Rattle.cycle_table_laws.proofs.Readies.{gone_out, not_out}
 use Rattle.cycle_table_laws.proofs.Wires.{numbers_of, put_on, wire_append}
-use Rattle.cycle_table_laws.proofs.Zips.{filter_gone, filter_kept, same_field, set_put, zip_append, zip_as, zip_length}
+use Rattle.cycle_table_laws.proofs.Zips.{filter_gone, same_field, set_put, zip_append, zip_as, zip_length}
 
 no_letter : {A : Type 0} (qs : List A) → length qs ≡ 0 → qs ≡ []
 no_letter [] e = refl
@@ -92,17 +93,6 @@ module _ {X L P T : Type 0} (p : Plan X) (plan : IsPlan p) (m : Machine X L P) (
   abbrev left_by : Bool → List (Letter X P)
   left_by b = cond b (filter (λ l. not (is_for p (s.given i / 3) i l)) s.mail) s.mail
 
-  kept : (j r : ℕ) → (j ≡ i → r ≡ s.given i / 3 → ⊥) → (b : Bool) → filter (is_for p r j) (left_by b) ≡ filter (is_for p r j) s.mail
-  kept j r apart true = filter_kept (is_for p r j) (λ l. not (is_for p (s.given i / 3) i l)) passes s.mail
-    where
-      no : (b : Bool) → (b ≡ true → ⊥) → not b ≡ true
-      no true f = absurd (f refl)
-      no false f = refl
-
-      passes : (l : Letter X P) → is_for p r j l ≡ true → not (is_for p (s.given i / 3) i l) ≡ true
-      passes l e = no (is_for p (s.given i / 3) i l) (λ f. let a = for_is p r j l e in let b = for_is p (s.given i / 3) i l f in apart (sym a.reader ∙ b.reader) (sym a.round ∙ b.round))
-  kept j r apart false = refl
-
   gone : (r : ℕ) → r ≡ s.given i / 3 → filter (is_for p r i) (filter (λ l. not (is_for p (s.given i / 3) i l)) s.mail) ≡ []
   gone r e = filter_gone (is_for p r i) (λ l. not (is_for p (s.given i / 3) i l)) (λ l f. let a = for_is p r i l f in ap not (is_for_from p (s.given i / 3) i l (a.round ∙ e) a.reader)) s.mail
 
@@ -120,7 +110,7 @@ module _ {X L P T : Type 0} (p : Plan X) (plan : IsPlan p) (m : Machine X L P) (
     | inl same ↦ zip_as (StandsFor p R) (mail_of v i r) (mail_of v i r) (in_mailbox p s i r) (filter (is_for p r i) (filter (λ l. not (is_for p (s.given i / 3) i l)) s.mail)) refl
         (gone r same ∙ sym (gone_out p s i r (out_before r ∙ and_from (is_reading p (s.given i)) (s.given i / 3 == r) e (eq-eqb (s.given i / 3) r (sym same))))) (h.mail i r gives.list low)
     | inr ne ↦ zip_as (StandsFor p R) (mail_of v i r) (mail_of v i r) (in_mailbox p s i r) (filter (is_for p r i) (filter (λ l. not (is_for p (s.given i / 3) i l)) s.mail)) refl
-        (kept i r (λ _ f. ne f) true ∙ sym (not_out p s i r (out_before r ∙ and_right (is_reading p (s.given i)) (s.given i / 3 == r) (ne_eqb (s.given i / 3) r (λ f. ne (sym f)))))) (h.mail i r gives.list low)
+        (left_letters p s i i r (λ _ f. ne f) true ∙ sym (not_out p s i r (out_before r ∙ and_right (is_reading p (s.given i)) (s.given i / 3 == r) (ne_eqb (s.given i / 3) r (λ f. ne (sym f)))))) (h.mail i r gives.list low)
   ]
 
   mail_next : (j r : ℕ) → j < p.lists → r < p.rounds → AllZip (StandsFor p R) (mail_of v j r) (in_mailbox p (step p m s (give seat i)) j r)
@@ -131,7 +121,7 @@ module _ {X L P T : Type 0} (p : Plan X) (plan : IsPlan p) (m : Machine X L P) (
     | inr ne ↦ zip_as (StandsFor p R) (mail_of v j r) (mail_of v j r) (in_mailbox p s j r) (in_mailbox p (step p m s (give seat i)) j r) refl
         (ap (λ (out : Option ℕ). cond (is_some out && (is_reading p (put s.given i (s.given i + 1) j) && put s.given i (s.given i + 1) j / 3 == r)) [] (filter (is_for p r j) (left p s i))) (put_other s.out i j None ne)
         ∙ ap (λ g. cond (is_some (s.out j) && (is_reading p g && g / 3 == r)) [] (filter (is_for p r j) (left p s i))) (put_other s.given i j (s.given i + 1) ne)
-        ∙ ap (λ (ls : List (Letter X P)). cond (went_out p s j r) [] ls) (kept j r (λ e _. ne e) (is_reading p (s.given i)))) (h.mail j r list round)
+        ∙ ap (λ (ls : List (Letter X P)). cond (went_out p s j r) [] ls) (left_letters p s i j r (λ e _. ne e) (is_reading p (s.given i)))) (h.mail j r list round)
   ]
 
   abbrev new_state : ListState

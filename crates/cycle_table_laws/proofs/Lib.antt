@@ -1,5 +1,6 @@
 pub mod Zips
 pub mod Wires
+pub mod Leases
 pub mod Readies
 pub mod Takings
 pub mod Givings

@@ -8,15 +8,17 @@ use Rattle.cycle_tables.specs.declared.letter.Letter.{Letter as Posted}
 use Rattle.cycle_tables.specs.declared.letter.Post.{Post}
 use Rattle.cycle_tables.specs.Tables.{Protocol, due_in, mail_of, post_of, state_of}
 
--- a letter of the tables stands for one of the machine: R says that what it carries is what the letter is about and holds
-pub record StandsFor {X P T : Type 0} (p : Plan X) (R : T → X → P → Type 0) (l : Posted T) (m : Letter X P) : Type 0 where
+-- a letter of the tables stands for one of the machine: R says that it carries what the letter is about and holds
+pub record StandsFor {X P T : Type 0} (p : Plan X) (R : T → X → P → Type 0) (l : Posted T) (m : Letter X P)
+    : Type 0 where
   pub number : l.number ≡ m.number
   pub round : l.round ≡ m.round
   pub to : l.to ≡ p.to m.of
   pub content : R l.content m.of m.content
 
 -- a letter that is to be posted likewise; it has no number yet
-pub record WillStandFor {X P T : Type 0} (p : Plan X) (R : T → X → P → Type 0) (q : Post T) (m : Letter X P) : Type 0 where
+pub record WillStandFor {X P T : Type 0} (p : Plan X) (R : T → X → P → Type 0) (q : Post T) (m : Letter X P)
+    : Type 0 where
   pub to : q.to ≡ p.to m.of
   pub content : R q.content m.of m.content
 
@@ -45,7 +47,8 @@ abbrev pub in_mailbox : {X L P : Type 0} → Plan X → State X L P → ℕ → 
 in_mailbox p s i r = cond (went_out p s i r) [] (filter (is_for p r i) s.mail)
 
 -- the tables show a state
-pub record Shows {X L P T : Type 0} (p : Plan X) (R : T → X → P → Type 0) (s : State X L P) (v : Protocol T) : Type 0 where
+pub record Shows {X L P T : Type 0} (p : Plan X) (R : T → X → P → Type 0) (s : State X L P) (v : Protocol T)
+    : Type 0 where
   pub plan : IsFor p v
   pub given : (i : ℕ) → i < p.lists → (state_of v i).given ≡ s.given i
   pub out : (i : ℕ) → i < p.lists → (state_of v i).out ≡ s.out i

@@ -1,6 +1,6 @@
 //! The tables show the machine of `cycle_rounds`, event by event.
 
-ghost use Rattle.cycle_table_laws.specs.Laws.{BeginIsShown, DeliverIsShown, GiveIsShown, ReadinessIsShown, TakeIsShown};
+ghost use Rattle.cycle_table_laws.specs.Laws.{BeginIsShown, DeliverIsShown, GiveIsShown, LeaseHasItsLetters, LeaseKeepsItsLetters, ReadinessIsShown, TakeIsShown};
 
 /// The tables of a cycle that begins show its first state.
 pub fn begin_law<X, L, P, T>()
@@ -25,4 +25,10 @@ pub fn give_law<X, L, P, T>()
 /// A letter on the wire may be delivered by the tables, and they then show the next state.
 pub fn deliver_law<X, L, P, T>()
     ensures { DeliverIsShown X L P T }
+{}
+
+/// The letters that went with a task are those that the machine reads when its work is given.
+pub fn lease_law<X, L, P>()
+    ensures stay { LeaseKeepsItsLetters X L P }
+    ensures hold { LeaseHasItsLetters X L P }
 {}

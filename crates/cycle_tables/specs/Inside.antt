@@ -118,12 +118,14 @@ advanced v i = record v {
 }
 
 -- a letter on the wire goes to a list and a round that there are, and its mailbox has room for all that are due
-pub record IsExpected {T : Type 0} (rounds : ℕ) (lists : List ListState) (mail : List (List (Box T))) (l : Letter T) : Type 0 where
+pub record IsExpected {T : Type 0} (rounds : ℕ) (lists : List ListState) (mail : List (List (Box T))) (l : Letter T)
+    : Type 0 where
   pub list : l.to < length lists
   pub round : l.round < rounds
   pub room : due_in (slice_index_or lists l.to no_list).due l.round ≤ (box_of mail l.to l.round).room
 
-abbrev pub protocol_of : {T : Type 0} → ℕ → ℕ → List ListState → List (Option (Letter T)) → List (List (Box T)) → Protocol T
+abbrev pub protocol_of : {T : Type 0} → ℕ → ℕ → List ListState → List (Option (Letter T)) → List (List (Box T))
+    → Protocol T
 protocol_of rounds tail lists posts mail =
     record { rounds = rounds; tail = tail; lists = lists; posts = posts; mail = map letters_in mail }
 
@@ -131,9 +133,10 @@ protocol_of rounds tail lists posts mail =
 abbrev pub IsWithin : ℕ → ListState → Type 0
 IsWithin all l = l.given + cond (is_some l.out) 1 0 ≤ all
 
--- the tables: none is too long; each letter on the wire is expected; the marks are those of the lists that may go on; and
--- the counts of lists past the barrier, of lists with tasks left and of tasks that are out are right
-pub record IsTables {T : Type 0} (rounds tail : ℕ) (lists : List ListState) (posts : List (Option (Letter T))) (mail : List (List (Box T))) (ready : List Bool) (past left leased : ℕ) : Type 0 where
+-- the tables: none is too long; each letter on the wire is expected; the marks are those of the lists that may go on;
+-- and the counts of lists past the barrier, of lists with tasks left and of tasks that are out are right
+pub record IsTables {T : Type 0} (rounds tail : ℕ) (lists : List ListState) (posts : List (Option (Letter T)))
+    (mail : List (List (Box T))) (ready : List Bool) (past left leased : ℕ) : Type 0 where
   pub tasks : all_tasks rounds tail < 2 ^ 32
   pub some_lists : length lists < 2 ^ 32
   pub some_posts : length posts ≤ 2 ^ 32

@@ -30,7 +30,8 @@ abbrev pub protocol_code : {T : Type 0} → Coded T → Coded (Protocol T)
 protocol_code {T} code =
     code_by
     ((ℕ × ℕ) × (List ListState × (List (Option (Letter T)) × List (List (List (Letter T))))))
-    (coded× (coded× coded_ℕ coded_ℕ) (coded× (coded_list state_code) (coded× (coded_list (coded_option (letter_code code))) (coded_list (coded_list (coded_list (letter_code code)))))))
+    (coded× (coded× coded_ℕ coded_ℕ) (coded× (coded_list state_code)
+    (coded× (coded_list (coded_option (letter_code code))) (coded_list (coded_list (coded_list (letter_code code)))))))
     (λ v. ((v.rounds, v.tail), (v.lists, (v.posts, v.mail))))
     (λ p. record { rounds = p.0.0; tail = p.0.1; lists = p.1.0; posts = p.1.1.0; mail = p.1.1.1 })
     (λ _. refl)
@@ -42,7 +43,8 @@ pub record Box (T : Type 0) : Type 0 where
 
 abbrev pub box_code : {T : Type 0} → Coded T → Coded (Box T)
 box_code {T} code =
-    code_by (List (Letter T) × ℕ) (coded× (coded_list (letter_code code)) coded_ℕ) (λ b. (b.letters, b.room)) (λ p. record { letters = p.0; room = p.1 }) (λ _. refl)
+    code_by (List (Letter T) × ℕ) (coded× (coded_list (letter_code code)) coded_ℕ)
+    (λ b. (b.letters, b.room)) (λ p. record { letters = p.0; room = p.1 }) (λ _. refl)
 
 -- the letters that were sent, by number, while they are on the wire, and how many more there is room for
 pub record Sent (T : Type 0) : Type 0 where
@@ -51,4 +53,5 @@ pub record Sent (T : Type 0) : Type 0 where
 
 abbrev pub sent_code : {T : Type 0} → Coded T → Coded (Sent T)
 sent_code {T} code =
-    code_by (List (Option (Letter T)) × ℕ) (coded× (coded_list (coded_option (letter_code code))) coded_ℕ) (λ b. (b.posts, b.room)) (λ p. record { posts = p.0; room = p.1 }) (λ _. refl)
+    code_by (List (Option (Letter T)) × ℕ) (coded× (coded_list (coded_option (letter_code code))) coded_ℕ)
+    (λ b. (b.posts, b.room)) (λ p. record { posts = p.0; room = p.1 }) (λ _. refl)

@@ -6,8 +6,8 @@ use Rattle.cycle_tables.specs.declared.letter.Post.{Post}
 use Rattle.cycle_tables.specs.declared.list_state.Due.{Due}
 use Rattle.cycle_tables.specs.declared.list_state.ListState.{ListState}
 
--- so many rounds of three tasks each, and so many tasks of the tail; where each list stands; each letter that was sent, by
--- its number, while it is on the wire; and the letters that were delivered and not read, by list and round
+-- so many rounds of three tasks each, and so many tasks of the tail; where each list stands; each letter that was sent,
+-- by its number, while it is on the wire; and the letters that were delivered and not read, by list and round
 pub record Protocol (T : Type 0) : Type 0 where
   pub rounds : ℕ
   pub tail : ℕ
@@ -40,8 +40,8 @@ is_reading rounds given = nat_lt given (round_tasks rounds) && given % 3 == 1
 abbrev pub due_in : Due → ℕ → ℕ
 due_in due r = cond (r % 2 == 0) due.ghosts due.fluxes
 
--- whether the next task of a list may be taken: none of it is out, there is one more, a reading has as many letters as are
--- due, and the tail waits until all lists are past the barrier
+-- whether the next task of a list may be taken: none of it is out, there is one more, a reading has as many letters as
+-- are due, and the tail waits until all lists are past the barrier
 abbrev pub can_start : ℕ → ℕ → Bool → ListState → ℕ → Bool
 can_start rounds tail past l come =
     not (is_some l.out) && (nat_lt l.given (all_tasks rounds tail) && cond (nat_lt l.given (round_tasks rounds))

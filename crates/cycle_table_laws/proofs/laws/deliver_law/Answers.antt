@@ -5,4 +5,5 @@ use Rattle.cycle_table_laws.proofs.Deliveries.{delivers_as}
 use Rattle.cycle_table_laws.proofs.laws.deliver_law.Goals as goal
 
 pub returns : goal.returns
-returns g c = λ p m events of content v seat k l plan legal h is. delivers_as p plan m (Says of content) (replay p m events) (replay_orderly p m plan events legal) v h seat k l is
+returns g c = λ p m events of content v plan legal h seat k l is.
+    delivers_as p plan m (Says of content) (replay p m events) (replay_orderly p m plan events legal) v h seat k l is

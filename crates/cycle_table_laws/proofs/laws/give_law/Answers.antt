@@ -6,4 +6,5 @@ use Rattle.cycle_table_laws.proofs.Givings.{gives_as}
 use Rattle.cycle_table_laws.proofs.laws.give_law.Goals as goal
 
 pub returns : goal.returns
-returns g c = λ p m events of content v seat i letters plan legal h may stand. gives_as p plan m (Says of content) (replay p m events) v h seat i may letters stand (sent_most p m events (give seat i) legal may)
+returns g c = λ p m events of content v plan legal h seat i letters may stand.
+    gives_as p plan m (Says of content) (replay p m events) v h seat i may letters stand (sent_most p m events (give seat i) legal may)
