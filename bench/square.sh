@@ -1,6 +1,7 @@
 #!/usr/bin/env bash
 # Measures a run of 256 by 256 cells in blocks of 16 by 16 with one field over 500 cycles of one stage, with a dump at the
-# opening and at the end. Prints the machine's processor, the time, the time of a cell update, and the peak memory.
+# opening and at the end. Prints the machine's processor, the time, the time of a cell update, that of the kernels alone (fluxes and
+# update of blocks of that size, with ghosts that are there), the ratio of the two, and the peak memory.
 set -eu
 export LC_ALL=C
 
@@ -10,6 +11,7 @@ cycles=${1:-500}
 
 top=$(cd "$(dirname "$(readlink -f "${BASH_SOURCE[0]}")")/.." && pwd)
 program=$top/crates/parthenon_whole/out/parthenon_whole
+kernels=$top/crates/kernel_bench/out/kernel_bench
 folder=$(mktemp -d)
 trap 'rm -rf "$folder"' EXIT
 
@@ -25,6 +27,7 @@ write_deck() {
 
 # The script proves and builds the program where that is due; without words it then ends with a usage line.
 "$top/parthenon_whole" >/dev/null || [ $? -eq 1 ]
+[ -x "$kernels" ] || (cd "$top/crates/kernel_bench" && rt run >/dev/null)
 write_deck >"$folder/deck.in"
 
 cd "$folder"
@@ -45,10 +48,14 @@ if [ "$status" -ne 0 ]; then
     cat line >&2
     exit 1
 fi
+kernel=$("$kernels" lists ${block}x$block 32 both)
 echo "processor: $(awk -F': ' '/^model name/ { print $2; exit }' /proc/cpuinfo)"
 echo "run: $(cat line)"
-awk -v start="$start" -v end="$end" -v updates="$((side * side * cycles))" -v peak="$peak" 'BEGIN {
+awk -v start="$start" -v end="$end" -v updates="$((side * side * cycles))" -v kernel="$kernel" -v peak="$peak" 'BEGIN {
+    time = (end - start) * 1e9 / updates
     printf "time: %.3f s\n", end - start
-    printf "time of a cell update: %.2f ns\n", (end - start) * 1e9 / updates
+    printf "time of a cell update: %.2f ns\n", time
+    printf "time of the kernels alone: %.2f ns a cell\n", kernel
+    printf "ratio: %.2f\n", time / kernel
     printf "peak memory: %d kB\n", peak
 }'

@@ -3,6 +3,6 @@ mod Bounds
 mod Slots
 mod Added
 mod Reactions
-mod Pushed
+pub mod Pushed
 mod StagedLists
 mod Cycles

@@ -1,9 +1,7 @@
 -- What the history says of a field, by its parts.
 use Rattle.std.proofs.Common.{◌≡◌, ◌∙◌, ℕ, zero, suc, ◌+◌, ◌<◌, List, [], ◌∷◌, ◌++◌, length, ap, arith, refl, sym}
 use Rattle.std.specs.List.{slice_index_or}
-use Rattle.std.proofs.lemmas.List.FromFn.{map-range_with_len_more}
 use Rattle.package_fields.specs.declared.flow.Flow.{Flow}
-use Rattle.mesh_rules.specs.Sums.{table}
 use Rattle.mesh_texts.specs.declared.history.HistoryEntry.{HistoryEntry}
 
 -- entries are one where their parts are
@@ -19,8 +17,3 @@ pub item_same : {X : Type 0} (xs : List X) (i : ℕ) (d e : X) → i < length xs
 item_same [] i d e h = absurd (omega (arith, h))
 item_same (x ∷ xs) zero d e h = refl
 item_same (x ∷ xs) (suc i) d e h = item_same xs i d e (omega (arith, h))
-
--- a table with one more item
-pub table_more : {X : Type 0} (n : ℕ) (f : ℕ → X) (xs new : List X) (x : X) → xs ≡ table n f → x ≡ f n → new ≡ xs ++ x ∷ [] → new ≡ table (n + 1) f
-table_more n f xs new x before is pushed =
-    pushed ∙ ap (λ v. v ++ x ∷ []) before ∙ ap (λ v. table n f ++ v ∷ []) is ∙ sym (map-range_with_len_more f 0 n n (omega arith))

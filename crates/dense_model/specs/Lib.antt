@@ -1,3 +1,4 @@
 pub mod RunFiles
+pub mod Files
 pub mod Stands
 pub mod Next

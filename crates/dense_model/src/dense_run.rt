@@ -1,14 +1,17 @@
 //! The run of a problem.
 
-ghost use Rattle.std.specs.Prelude.{◌≡◌, ◌+◌, ◌-◌, ◌++◌, ◌<◌, ◌≤◌, ◌^◌, ◌↔◌, IfOk, IfErr, OnOk, OnErr, IsTrue, length, replicate};
+ghost use Rattle.std.specs.Prelude.{◌≡◌, ◌+◌, ◌-◌, ◌++◌, ◌<◌, ◌≤◌, ◌^◌, ◌↔◌, IfOk, IfErr, OnOk, OnErr, IsTrue, length, map, replicate};
 ghost use Rattle.package_fields.specs.Flow.{no_flow};
 ghost use Rattle.problem_set.specs.SettingsOf.{settings_of};
 ghost use Rattle.mesh_rules.specs.Files.{lines_of_cycle};
 ghost use Rattle.mesh_rules.specs.Reaction.{kernel_of};
+ghost use Rattle.mesh_texts.specs.Dump.{joined};
+ghost use Rattle.dense_model.specs.Files.{file_of, files_until};
 ghost use Rattle.dense_model.specs.RunFiles.{CannotGoOn, CannotStart, IsRunning, dump_after, leaves_after, run_of, total_after};
 ghost use Rattle.dense_model.specs.Next.{tree_after};
 
 use crate::fault::DenseFault;
+use crate::files::files_until;
 use crate::history::entries_after;
 use crate::next::{Next, next_cycle};
 use crate::opening::open;
@@ -17,7 +20,8 @@ use block_layout::Layout;
 use block_tree::Tree;
 use dense_cycle::DenseState;
 use mesh_num::NoMemory;
-use mesh_texts::{dump_text, push_history_lines};
+use mesh_outside::Files;
+use mesh_texts::{DumpWalk, dump_text, push_history_lines};
 use package_fields::{Flow, Flows, Items};
 use problem_set::Problem;
 use std::alloc::Global;
@@ -174,6 +178,29 @@ impl<'a> DenseRun<'a> {
             self.state.held.lists.as_slice(),
             self.cycle,
         )
+    }
+
+    /// A walk over the text of that dump, so that it need not stand whole in memory.
+    pub fn walk<'b>(&'b self) -> DumpWalk<'b>
+        ensures { joined result ≡ dump_after self.now.problem self.now.cycle }
+    {
+        DumpWalk::start(
+            self.problem,
+            &self.tree,
+            &self.layout,
+            self.state.held.lists.as_slice(),
+            self.cycle,
+        )
+    }
+
+    /// The files of the run so far: each dump that was due, and last the history once all cycles were run.
+    ///
+    /// A run keeps no dumps, so the problem is run anew up to the same cycle: that takes the time of the cycles once more, and
+    /// memory for a second run and for all the files.
+    pub fn files(&self, prefix: &str) -> Result<Files, NoMemory>
+        ensures { IfOk result (λ files. files ≡ map file_of (files_until self.now.problem prefix.now self.now.cycle)) }
+    {
+        files_until(self.alloc, self.problem, prefix, self.cycle)
     }
 
     /// Appends the lines of the last cycle in the history, of the opening before the first one.

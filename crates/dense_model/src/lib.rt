@@ -7,6 +7,7 @@
 
 mod dense_run;
 mod fault;
+mod files;
 mod history;
 mod kernel;
 mod next;

@@ -9,27 +9,12 @@ use Rattle.mesh_rules.specs.Texts.{dump_text, history_heading, line}
 use Rattle.mesh_rules.specs.Files.{NamedText, dump_file_name, dumps_at, dumps_of_cycle, history_file_name, history_files, is_dumped, lines_of_cycle, lines_until, of_running}
 use Rattle.mesh_rules.specs.Texts.{history_of}
 use Rattle.mesh_rules.specs.Reaction.{kernel_of}
-use Rattle.dense_model.specs.RunFiles.{IsRunning, RunAt, dump_after, of_run, run_of}
+use Rattle.dense_model.specs.RunFiles.{IsRunning, RunAt, dump_after, run_of}
+use Rattle.dense_model.proofs.FileLists.{due_dumps, first_lines, history_is, lines_more, no_dumps, range_next, range_parts}
 use Rattle.mesh_outside.specs.declared.files.Gained.{Gained}
 use Rattle.mesh_outside.specs.Gained.{IsClosed, Gains, GainsPrefix}
 use Rattle.mesh_driver.specs.Files.{whole_file, files_at, files_of}
 use Rattle.mesh_driver.proofs.Gaining.{closed_after, gains_more, gains_prefix_more}
-
--- lists over ranges
-range_parts : {X : Type 0} (f : ℕ → List X) (a n k : ℕ) → flat_map f (range_with_len a (n + k)) ≡ flat_map f (range_with_len a n) ++ flat_map f (range_with_len (a + n) k)
-range_parts f a zero k = let e : 0 + k ≡ k = omega arith in let g : a ≡ a + 0 = omega arith in ap (λ v. flat_map f (range_with_len a v)) e ∙ ap (λ v. flat_map f (range_with_len v k)) g
-range_parts f a (suc n) k =
-    let e : suc n + k ≡ suc (n + k) = omega arith in
-    let g : a + 1 + n ≡ a + suc n = omega arith in
-    ap (λ v. flat_map f (range_with_len a v)) e
-    ∙ ap (λ v. f a ++ v) (range_parts f (a + 1) n k)
-    ∙ sym (append_assoc (f a) (flat_map f (range_with_len (a + 1) n)) (flat_map f (range_with_len (a + 1 + n) k)))
-    ∙ ap (λ v. f a ++ flat_map f (range_with_len (a + 1) n) ++ flat_map f (range_with_len v k)) g
-
-range_next : {X : Type 0} (f : ℕ → List X) (n : ℕ) → flat_map f (range_with_len 0 (n + 1)) ≡ flat_map f (range_with_len 0 n) ++ f n
-range_next f n =
-    let z : 0 + n ≡ n = omega arith in
-    range_parts f 0 n 1 ∙ ap (λ v. flat_map f (range_with_len 0 n) ++ v) (append-nil (f (0 + n)) ∙ ap f z)
 
 -- the dumps of a cycle
 abbrev dumps_in : Settings → List ℕ → ℕ → List NamedText
@@ -92,45 +77,14 @@ all_whole files = λ k d below.
 pub closed_behind : (p : Settings) (prefix : List ℕ) (n : ℕ) (a b : Option (List Gained)) → Gains a b (files_at p prefix n) → ForSome a IsClosed → ForSome b IsClosed
 closed_behind p prefix n a b gains closed = closed_after a b (files_at p prefix n) gains closed (all_whole (dumps_in p prefix n))
 
--- what a run that goes on gives after a cycle
-dumps_are : (p : Settings) (prefix : List ℕ) (n : ℕ) (r : Reached) → run_of p n ≡ running r → files_at p prefix n ≡ map whole_file (dumps_at p prefix n r)
-unfolding run_of
-dumps_are p prefix n r e = ap (λ (o : Outcome). map whole_file (of_running (dumps_at p prefix n) o)) e
-
 -- a dump that is due is the files of its cycle
 pub due_files : (p : Settings) (prefix : List ℕ) (r : RunAt) (n : ℕ) (b : Bool) → r.problem ≡ p → IsRunning (run_of p r.cycle) → n ≡ r.cycle → b ≡ is_dumped p n → b ≡ true
     → whole_file (dump_file_name prefix r.cycle, dump_after r.problem r.cycle) ∷ [] ≡ files_at p prefix r.cycle
-due_files p prefix r n b same runs is told holds =
-    let reached = runs.0 in
-    let due : is_dumped p r.cycle ≡ true = ap (is_dumped p) (sym is) ∙ sym told ∙ holds in
-    ap (λ (q : Settings). whole_file (dump_file_name prefix r.cycle, dump_after q r.cycle) ∷ []) same
-    ∙ ap (λ (o : Outcome). whole_file (dump_file_name prefix r.cycle, of_run (λ s. dump_text p s.state.mesh r.cycle) [] o) ∷ []) runs.1
-    ∙ sym (dumps_are p prefix r.cycle reached runs.1 ∙ ap (λ (v : Bool). map whole_file (cond v ((dump_file_name prefix r.cycle, dump_text p reached.state.mesh r.cycle) ∷ []) [])) due)
+due_files p prefix r n b same runs is told holds = ap (map whole_file) (due_dumps p prefix r n b same runs is told holds)
 
 -- where no dump is due there is none
 pub none_due : (p : Settings) (prefix : List ℕ) (r : RunAt) (n : ℕ) (b : Bool) → IsRunning (run_of p r.cycle) → n ≡ r.cycle → b ≡ is_dumped p n → b ≡ false → [] ≡ files_at p prefix r.cycle
-none_due p prefix r n b runs is told fails =
-    let reached = runs.0 in
-    let none : is_dumped p r.cycle ≡ false = ap (is_dumped p) (sym is) ∙ sym told ∙ fails in
-    sym (dumps_are p prefix r.cycle reached runs.1 ∙ ap (λ (v : Bool). map whole_file (cond v ((dump_file_name prefix r.cycle, dump_text p reached.state.mesh r.cycle) ∷ []) [])) none)
-
--- the history of a run that completes
-pub history_is : (p : Settings) (prefix : List ℕ) → IsRunning (run_of p p.nlim) → history_files p (kernel_of p) prefix ≡ (history_file_name prefix, history_of p (lines_until p (kernel_of p) p.nlim)) ∷ []
-unfolding run_of
-history_is p prefix runs = ap (of_running (λ (r : Reached). (history_file_name prefix, history_of p (lines_until p (kernel_of p) p.nlim)) ∷ [])) runs.1
-
--- the lines of the first cycle, and of one cycle more
-pub first_lines : (p : Settings) (history : List ℕ) → history ≡ history_heading p ++ lines_of_cycle p (kernel_of p) 0 → history ≡ history_heading p ++ lines_until p (kernel_of p) 0
-first_lines p history e = e ∙ ap (λ (v : List ℕ). history_heading p ++ v) (sym (append-nil (lines_of_cycle p (kernel_of p) 0)))
-
-pub lines_more : (p : Settings) (n m : ℕ) (before after : List ℕ) → m ≡ n + 1 → before ≡ history_heading p ++ lines_until p (kernel_of p) n → after ≡ before ++ lines_of_cycle p (kernel_of p) (n + 1) → after ≡ history_heading p ++ lines_until p (kernel_of p) m
-lines_more p n m before after next e1 e2 =
-    let heading = history_heading p in
-    let lines = lines_until p (kernel_of p) n in
-    let more = lines_of_cycle p (kernel_of p) (n + 1) in
-    e2 ∙ ap (λ (v : List ℕ). v ++ more) e1 ∙ append_assoc heading lines more
-    ∙ ap (λ (v : List ℕ). heading ++ v) (sym (range_next (lines_of_cycle p (kernel_of p)) (n + 1)))
-    ∙ ap (λ (v : ℕ). heading ++ lines_until p (kernel_of p) v) (sym next)
+none_due p prefix r n b runs is told fails = ap (map whole_file) (no_dumps p prefix r n b runs is told fails)
 
 -- the file of the history
 abbrev pub history_file : List ℕ → List ℕ → Gained

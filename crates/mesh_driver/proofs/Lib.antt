@@ -1,5 +1,6 @@
 pub mod Cycles
 pub mod Faults
 pub mod Gaining
+pub mod Passing
 pub mod Stopped
 pub mod Stopping

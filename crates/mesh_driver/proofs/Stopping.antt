@@ -9,6 +9,7 @@ use Rattle.mesh_rules.specs.Texts.{history_heading, history_of}
 use Rattle.mesh_rules.specs.Reaction.{kernel_of}
 use Rattle.mesh_laws.proofs.StoppedFiles.{files_of_stopped, no_files_at_start, run_first}
 use Rattle.dense_model.specs.RunFiles.{CannotGoOn, CannotStart, IsRunning, RunAt, run_of}
+use Rattle.dense_model.proofs.FileLists.{history_is}
 use Rattle.dense_model.specs.declared.fault.DenseFault.{DenseFault}
 use Rattle.dense_model.specs.declared.fault.DenseFault.TheVariants as dense
 use Rattle.mesh_outside.specs.declared.files.Gained.{Gained}
@@ -19,7 +20,7 @@ use Rattle.mesh_driver.specs.Fault.{fault_of_run}
 use Rattle.mesh_driver.specs.Files.{whole_file, files_at, files_of}
 use Rattle.mesh_driver.specs.Stops.{NeverCompletes, Stops, StopsAmong, StopsIn, StopsWriting}
 use Rattle.mesh_driver.proofs.Gaining.{gains_more, gains_prefix_more}
-use Rattle.mesh_driver.proofs.Cycles.{all_split, all_with_history, files_before, files_from, gains_next, history_file, history_is, nothing_gained, stops_at}
+use Rattle.mesh_driver.proofs.Cycles.{all_split, all_with_history, files_before, files_from, gains_next, history_file, nothing_gained, stops_at}
 
 -- some first files were gained: a prefix, or all where none are left
 some_gained : (files xs ys : List Gained) (a b : Option (List Gained)) → files ≡ xs ++ ys → Gains a b xs → GainsPrefix a b files ⊎ (Gains a b files × (ys ≡ []))

@@ -4,6 +4,7 @@
 //!   number is a multiple of the problem's `dump_every`, and at the last cycle.
 #![tactic(auto)]
 
+mod dumps;
 mod fault;
 mod run;
 

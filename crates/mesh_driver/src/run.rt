@@ -1,8 +1,8 @@
 ghost use Rattle.std.specs.Prelude.{◌≡◌, ◌+◌, ◌++◌, ◌<◌, [], ◌∷◌, Err, IfOk, IfErr, OnOk, codes};
 ghost use Rattle.std.specs.Option.{ForSome};
 ghost use Rattle.problem_set.specs.SettingsOf.{settings_of};
-ghost use Rattle.dense_model.specs.RunFiles.{IsRunning, dump_after, run_of};
-ghost use Rattle.mesh_rules.specs.Files.{dump_file_name, history_file_name, lines_of_cycle};
+ghost use Rattle.dense_model.specs.RunFiles.{IsRunning, run_of};
+ghost use Rattle.mesh_rules.specs.Files.{history_file_name, lines_of_cycle};
 ghost use Rattle.mesh_rules.specs.Reaction.{kernel_of};
 ghost use Rattle.mesh_rules.specs.Texts.{history_heading, line};
 ghost use Rattle.mesh_outside.specs.Depot.{AfterWrites};
@@ -11,9 +11,10 @@ ghost use Rattle.mesh_driver.specs.Files.{end_of, files_at, files_of, whole_file
 ghost use Rattle.mesh_driver.specs.Stops.{Stops, StopsAmong, StopsIn, StopsWriting};
 
 use crate::DriveFault;
+use crate::dumps::write_dump;
 use dense_model::DenseRun;
 use mesh_outside::{Depot, write_file};
-use mesh_texts::{dump_file_name, history_file_name, is_dumped, push_end, push_history_heading};
+use mesh_texts::{history_file_name, is_dumped, push_end, push_history_heading};
 use problem_set::Problem;
 use std::alloc::Global;
 
@@ -154,26 +155,6 @@ fn write_due_dump<'a, D: Depot>(
     } else {
         Ok(())
     }
-}
-
-/// Writes the dump of the cycle that was run.
-fn write_dump<'a, D: Depot>(
-    alloc: Global,
-    run: &DenseRun<'a>,
-    prefix: &str,
-    depot: &mut D,
-) -> Result<(), DriveFault>
-    requires { ForSome (D.seen depot.old).written IsClosed }
-    ensures ok { OnOk result (Gains (D.seen depot.old).written (D.seen depot.new).written
-        (whole_file (dump_file_name prefix.now run.now.cycle, dump_after run.now.problem run.now.cycle) ∷ [])) }
-    ensures err { IfErr result (StopsWriting (whole_file (dump_file_name prefix.now run.now.cycle, dump_after run.now.problem run.now.cycle) ∷ [])
-        (D.seen depot.old).written (D.seen depot.new).written) }
-    ensures after { AfterWrites (result ≡ Err DriveFault.WriteFault) (D.seen depot.old) (D.seen depot.new) }
-{
-    let name = dump_file_name(alloc, prefix, run.cycles())?;
-    let text = run.dump()?;
-    write_file(depot, name.as_str(), text.as_slice())?;
-    Ok(())
 }
 
 /// Ends the history with its last line, and writes it.

@@ -1,6 +1,6 @@
 // Runs of fields that blocks may go without.
-use crate::decks::{ONE_BLOCK, TWO_BLOCKS};
 use crate::rows::Row;
+use worked_calls::{ONE_BLOCK, TWO_BLOCKS};
 
 /// Fields that blocks go without, and what thresholds drop.
 pub const POOLS: [Row; 7] = [

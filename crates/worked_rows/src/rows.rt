@@ -1,13 +1,13 @@
 // Runs over trees of any kind, by the line that they print and by lines of their files.
-use crate::calls::{call, words_with};
 use crate::pool_rows::POOLS;
 use crate::rule_rows::RULES;
 use crate::tree_rows::TREES;
 use mesh_cli::Status;
 use mesh_outside::Written;
-use std::alloc::Global;
+use std::alloc::{AllocError, Global};
 use std::process::Abort;
 use std::test::Fail as TestFail;
+use worked_calls::{call, call_with};
 
 /// A file's name, and lines that stand in it in this order.
 pub type Lines = (&'static str, &'static [&'static str]);
@@ -37,23 +37,28 @@ fn runs_by_other_rules_have_their_files(rt: HostRuntime) -> Result<(), TestFail>
 }
 
 fn check_rows(rt: &impl Abort, alloc: Global, rows: &[Row]) -> Result<(), TestFail> {
-    for (deck, overrides, line, count, files) in rows {
-        let words = words_with(alloc, overrides)?;
-        let called = call(alloc, words.as_slice(), deck.as_bytes())?;
-        assert_eq!(rt; called.status, Status::Done);
-        assert_eq!(rt; called.out.printed(), line.as_bytes());
-        assert_eq!(rt; called.depot.written().len(), *count);
-        check_files(rt, called.depot.written(), files)?;
+    for (at, row) in rows.iter().enumerate() {
+        assert!(rt; is_row(alloc, row)?, "at {at}");
     }
     Ok(())
 }
 
-fn check_files(rt: &impl Abort, written: &Written, files: &[Lines]) -> Result<(), TestFail> {
+fn is_row(alloc: Global, row: &Row) -> Result<bool, AllocError> {
+    let (deck, overrides, line, count, files) = row;
+    let called = call_with(alloc, overrides, deck.as_bytes())?;
+    Ok(called.ended(Status::Done, line, *count) && have_lines(called.depot.written(), files))
+}
+
+fn have_lines(written: &Written, files: &[Lines]) -> bool {
     for (name, lines) in files {
-        let bytes = bytes_of(written, name).ok_or("a file is missing")?;
-        assert!(rt; has_lines(bytes, lines), "in {name}");
+        let Some(bytes) = bytes_of(written, name) else {
+            return false;
+        };
+        if !has_lines(bytes, lines) {
+            return false;
+        }
     }
-    Ok(())
+    true
 }
 
 // The bytes of a finished file.
@@ -81,14 +86,17 @@ fn has_lines(text: &[u8], lines: &[&str]) -> bool {
 // The deck of a seed, twice, with one worker and with seven.
 #[test]
 fn the_deck_of_a_seed_has_one_outcome(rt: HostRuntime) -> Result<(), TestFail> {
-    let alloc = rt.alloc();
+    assert!(rt; is_the_same_with_seven(rt.alloc())?);
+    Ok(())
+}
+
+fn is_the_same_with_seven(alloc: Global) -> Result<bool, AllocError> {
     let one = call(alloc, &["-g", "7"], b"<")?;
     let seven = call(alloc, &["-g", "7", "-w", "7"], b"<")?;
-    assert_eq!(rt; one.status, Status::Done);
-    assert!(rt; one.out.printed().ends_with(b" total=32112\n"));
-    assert_eq!(rt; one.out.printed(), seven.out.printed());
-    assert!(rt; same_files(one.depot.written(), seven.depot.written()));
-    Ok(())
+    Ok(one.status == Status::Done
+        && one.out.printed().ends_with(b" total=32112\n")
+        && one.out.printed() == seven.out.printed()
+        && same_files(one.depot.written(), seven.depot.written()))
 }
 
 fn same_files(some: &Written, others: &Written) -> bool {

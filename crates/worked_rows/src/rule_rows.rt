@@ -1,6 +1,6 @@
 // Runs with reactions, by the second order, and in space.
-use crate::decks::{ONE_BLOCK, REACTION};
 use crate::rows::Row;
+use worked_calls::{ONE_BLOCK, REACTION};
 
 /// Reactions, the second order, and three axes.
 pub const RULES: [Row; 7] = [

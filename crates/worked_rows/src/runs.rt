@@ -1,10 +1,11 @@
-use crate::calls::{call, check_file, input, words, words_with};
-use crate::decks::{ONE_BLOCK, ONE_BLOCK_HISTORY, dump, many_fields, many_fields_dump};
 use mesh_cli::{Status, mesh_plain};
 use mesh_outside::{MemSink, SureDepot, Written};
-use std::alloc::Global;
-use std::process::Abort;
+use std::alloc::{AllocError, Global};
 use std::test::Fail as TestFail;
+use worked_calls::{
+    ONE_BLOCK, ONE_BLOCK_HISTORY, call, call_with, dump, input, is_file, many_fields,
+    many_fields_dump, words,
+};
 
 /// Overrides of the deck of one block, the cycles that are dumped with their rows, and the printed line.
 const RUNS: [(&[&str], &[(u32, &str)], &str); 9] = [
@@ -90,38 +91,36 @@ const RUNS: [(&[&str], &[(u32, &str)], &str); 9] = [
 #[test]
 fn a_run_writes_its_dumps_and_one_line(rt: HostRuntime) -> Result<(), TestFail> {
     for (overrides, dumps, line) in RUNS {
-        check_run(&rt, rt.alloc(), overrides, dumps, line)?;
+        assert!(rt; is_run(rt.alloc(), overrides, dumps, line)?, "{line}");
     }
     Ok(())
 }
 
-fn check_run(
-    rt: &impl Abort,
+fn is_run(
     alloc: Global,
     overrides: &[&str],
     dumps: &[(u32, &str)],
     line: &str,
-) -> Result<(), TestFail> {
-    let words = words_with(alloc, overrides)?;
-    let called = call(alloc, words.as_slice(), ONE_BLOCK.as_bytes())?;
-    assert_eq!(rt; called.status, Status::Done);
-    assert_eq!(rt; called.out.printed(), line.as_bytes());
-    assert_eq!(rt; called.depot.written().len(), dumps.len() + 1);
-    check_dumps(rt, alloc, called.depot.written(), dumps)
+) -> Result<bool, AllocError> {
+    let called = call_with(alloc, overrides, ONE_BLOCK.as_bytes())?;
+    let written = called.depot.written();
+    let mut all = called.ended(Status::Done, line, dumps.len() + 1);
+    for (at, (cycle, row)) in dumps.iter().enumerate() {
+        all = is_dump(alloc, written, at, *cycle, *row)? && all;
+    }
+    Ok(all)
 }
 
-fn check_dumps(
-    rt: &impl Abort,
+fn is_dump(
     alloc: Global,
     written: &Written,
-    dumps: &[(u32, &str)],
-) -> Result<(), TestFail> {
-    for (at, (cycle, row)) in dumps.iter().enumerate() {
-        let name = format!(in alloc; "mesh.00000{}.dump", *cycle)?;
-        let text = dump(alloc, *cycle, *row)?;
-        check_file(rt, written, at, name.as_str(), text.as_str())?;
-    }
-    Ok(())
+    at: usize,
+    cycle: u32,
+    row: &str,
+) -> Result<bool, AllocError> {
+    let name = format!(in alloc; "mesh.00000{}.dump", cycle)?;
+    let text = dump(alloc, cycle, row)?;
+    Ok(is_file(written, at, name.as_str(), text.as_str()))
 }
 
 // The history is the last file.
@@ -129,47 +128,48 @@ fn check_dumps(
 fn a_run_writes_its_history_last(rt: HostRuntime) -> Result<(), TestFail> {
     let called = call(rt.alloc(), &["-i", "deck"], ONE_BLOCK.as_bytes())?;
     assert_eq!(rt; called.status, Status::Done);
-    check_file(
-        &rt,
-        called.depot.written(),
-        3,
-        "mesh.hist",
-        ONE_BLOCK_HISTORY,
-    )
-}
-
-#[test]
-fn each_field_of_a_deck_is_in_its_dumps(rt: HostRuntime) -> Result<(), TestFail> {
-    let alloc = rt.alloc();
-    let deck = many_fields(alloc, 256)?;
-    let called = call(alloc, &["-d", "out/many", "-i", "deck"], deck.as_bytes())?;
-    assert_eq!(rt; called.status, Status::Done);
-    assert_eq!(rt;
-        called.out.printed(),
-        b"done cycles=1 blocks=1 total=32896000\n".as_slice()
-    );
-    assert_eq!(rt; called.depot.written().len(), 3);
-    for (at, name) in ["out/many.000000.dump", "out/many.000001.dump"]
-        .iter()
-        .enumerate()
-    {
-        let text = many_fields_dump(alloc, at as u32, 256)?;
-        check_file(&rt, called.depot.written(), at, *name, text.as_str())?;
-    }
+    assert!(rt; is_file(called.depot.written(), 3, "mesh.hist", ONE_BLOCK_HISTORY));
     Ok(())
 }
 
 #[test]
+fn each_field_of_a_deck_is_in_its_dumps(rt: HostRuntime) -> Result<(), TestFail> {
+    assert!(rt; has_each_field(rt.alloc())?);
+    Ok(())
+}
+
+fn has_each_field(alloc: Global) -> Result<bool, AllocError> {
+    let deck = many_fields(alloc, 256)?;
+    let called = call(alloc, &["-d", "out/many", "-i", "deck"], deck.as_bytes())?;
+    let written = called.depot.written();
+    let first = is_field_dump(alloc, written, 0, "out/many.000000.dump")?;
+    let last = is_field_dump(alloc, written, 1, "out/many.000001.dump")?;
+    Ok(first && last && called.ended(Status::Done, "done cycles=1 blocks=1 total=32896000\n", 3))
+}
+
+fn is_field_dump(
+    alloc: Global,
+    written: &Written,
+    cycle: u32,
+    name: &str,
+) -> Result<bool, AllocError> {
+    let text = many_fields_dump(alloc, cycle, 256)?;
+    Ok(is_file(written, cycle as usize, name, text.as_str()))
+}
+
+#[test]
 fn a_sure_depot_takes_the_run(rt: HostRuntime) -> Result<(), TestFail> {
-    let alloc = rt.alloc();
+    assert!(rt; is_taken_surely(rt.alloc())?);
+    Ok(())
+}
+
+fn is_taken_surely(alloc: Global) -> Result<bool, AllocError> {
     let words = words(alloc, &["-i", "deck"])?;
     let files = input(alloc, "deck", ONE_BLOCK.as_bytes())?;
     let mut depot = SureDepot::new(alloc, files, 5);
     let mut out = MemSink::new(alloc, 0);
     let status = mesh_plain(alloc, words.as_slice(), &mut depot, &mut out);
-    assert_eq!(rt; status, Status::Done);
-    assert_eq!(rt; depot.written().len(), 4);
-    Ok(())
+    Ok(status == Status::Done && depot.written().len() == 4)
 }
 
 // The dump that is printed whole where the format is described: 133 bytes.

@@ -1,6 +1,6 @@
 // Runs on graded and adaptive meshes, and on many blocks.
-use crate::decks::{ADAPTIVE_ROW, GRADED_ROW, GRADED_SQUARE, STORED_GRADED_ROW, TWO_DYES};
 use crate::rows::Row;
+use worked_calls::{ADAPTIVE_ROW, GRADED_ROW, GRADED_SQUARE, STORED_GRADED_ROW, TWO_DYES};
 
 /// Lines of the last dump of the two dyes: the first has lost a hundredth of 100 at its lower left and given it to its right and
 /// above, and the second, of which a hundredth is nothing, stands.

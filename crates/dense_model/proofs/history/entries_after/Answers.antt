@@ -1,7 +1,7 @@
 use Rattle.problem_set.specs.SettingsOf.{settings_of}
 use Rattle.mesh_texts.specs.History.{entry_of}
 use Rattle.dense_model.specs.Stands.{reached_in}
-use Rattle.dense_model.proofs.Entries.{table_more}
+use Rattle.dense_cycle.proofs.Pushed.{table_more}
 use Rattle.dense_model.proofs.history.entries_after.Goals as goal
 
 pub loop-field-preserved : goal.loop-field-preserved

@@ -6,7 +6,8 @@ use Rattle.dense_model.specs.RunFiles.{IsRunning, RunAt, run_of}
 use Rattle.mesh_outside.proofs.Afters.{writes_on, writes_then}
 use Rattle.mesh_driver.specs.declared.run.RunEnd.{RunEnd}
 use Rattle.mesh_driver.proofs.Faults.{fault_again, well}
-use Rattle.mesh_driver.proofs.Cycles.{closed_behind, gains_next, lines_more, nothing_gained, started_gains, started_lines}
+use Rattle.dense_model.proofs.FileLists.{lines_more}
+use Rattle.mesh_driver.proofs.Cycles.{closed_behind, gains_next, nothing_gained, started_gains, started_lines}
 use Rattle.mesh_driver.proofs.Stopping.{all_gained, history_stops, stops_at_start, stops_in}
 use Rattle.mesh_driver.proofs.run.drive.Goals as goal
 

@@ -1,7 +1,8 @@
-// The decks of the runs, and the dumps of one row of four cells.
+//! The decks of the runs, and the dumps of one row of four cells.
+
 use std::alloc::{AllocError, Global};
 
-/// The deck of `crates/parthenon_whole/data/reflecting_faces.in` without its comments: four cells between reflecting faces, with 8 in the
+/// The deck of the example `reflecting_faces.in` without its comments: four cells between reflecting faces, with 8 in the
 /// first, of which each cell gives a fourth to the right in a cycle.
 pub const ONE_BLOCK: &str = "<parthenon/mesh>
 nx1 = 4

@@ -1,9 +1,8 @@
-use crate::calls::{call, words_with};
-use crate::decks::{ONE_BLOCK, many_static_boxes};
+// Decks that are refused, and their lines.
 use mesh_cli::Status;
-use std::alloc::Global;
-use std::process::Abort;
+use std::alloc::{AllocError, Global};
 use std::test::Fail as TestFail;
+use worked_calls::{ONE_BLOCK, call, call_with, many_static_boxes};
 
 /// Overrides of the deck of one block, and the lines that refuse it.
 const REFUSED: [(&[&str], &str); 17] = [
@@ -83,47 +82,49 @@ const REFUSED: [(&[&str], &str); 17] = [
 #[test]
 fn refused_decks_have_their_lines(rt: HostRuntime) -> Result<(), TestFail> {
     for (overrides, line) in REFUSED {
-        check_refused(&rt, rt.alloc(), overrides, line)?;
+        assert!(rt; is_refused(rt.alloc(), overrides, line)?, "{line}");
     }
     Ok(())
 }
 
-fn check_refused(
-    rt: &impl Abort,
-    alloc: Global,
-    overrides: &[&str],
-    line: &str,
-) -> Result<(), TestFail> {
-    let words = words_with(alloc, overrides)?;
-    let called = call(alloc, words.as_slice(), ONE_BLOCK.as_bytes())?;
-    assert_eq!(rt; called.status, Status::Refused);
-    assert_eq!(rt; called.status.code(), 2);
-    assert_eq!(rt; called.out.printed(), line.as_bytes());
-    assert_eq!(rt; called.depot.written().len(), 0);
+fn is_refused(alloc: Global, overrides: &[&str], line: &str) -> Result<bool, AllocError> {
+    let called = call_with(alloc, overrides, ONE_BLOCK.as_bytes())?;
+    Ok(called.status.code() == 2 && called.ended(Status::Refused, line, 0))
+}
+
+/// Whole files, and the lines that refuse them.
+const REFUSED_FILES: [(&[u8], &str); 4] = [
+    (b"", "refused: missing parthenon/mesh nx1\n"),
+    (b"nx1 = 4\n<a>\n", "refused: line 1 no block\n"),
+    (b"<a>\n<a", "refused: line 2 syntax\n"),
+    (b"<a>\n\xff", "refused: byte 4 not text\n"),
+];
+
+#[test]
+fn refused_files_have_their_lines(rt: HostRuntime) -> Result<(), TestFail> {
+    for (deck, line) in REFUSED_FILES {
+        assert!(rt; is_refused_file(rt.alloc(), deck, line)?, "{line}");
+    }
     Ok(())
 }
 
-// Whole files, and the lines that refuse them.
+fn is_refused_file(alloc: Global, deck: &[u8], line: &str) -> Result<bool, AllocError> {
+    let called = call(alloc, &["-i", "deck", "no/word=1"], deck)?;
+    Ok(called.ended(Status::Refused, line, 0))
+}
+
 #[test]
-fn refused_files_have_their_lines(rt: HostRuntime) -> Result<(), TestFail> {
-    let alloc = rt.alloc();
+fn long_files_have_their_lines(rt: HostRuntime) -> Result<(), TestFail> {
+    assert!(rt; are_refused_long(rt.alloc())?);
+    Ok(())
+}
+
+fn are_refused_long(alloc: Global) -> Result<bool, AllocError> {
     let boxes = many_static_boxes(alloc, 257)?;
     let headers = vec![in alloc; b'<'; 1_048_576]?;
     let blanks = vec![in alloc; b' '; 1_048_577]?;
-    let rows: [(&[u8], &str); 7] = [
-        (b"", "refused: missing parthenon/mesh nx1\n"),
-        (b"nx1 = 4\n<a>\n", "refused: line 1 no block\n"),
-        (b"<a>\n<a", "refused: line 2 syntax\n"),
-        (b"<a>\n\xff", "refused: byte 4 not text\n"),
-        (headers.as_slice(), "refused: line 1 syntax\n"),
-        (blanks.as_slice(), "refused: too long\n"),
-        (boxes.as_bytes(), "refused: limit static count = 257\n"),
-    ];
-    for (deck, line) in rows {
-        let called = call(alloc, &["-i", "deck", "no/word=1"], deck)?;
-        assert_eq!(rt; called.status, Status::Refused);
-        assert_eq!(rt; called.out.printed(), line.as_bytes());
-        assert_eq!(rt; called.depot.written().len(), 0);
-    }
-    Ok(())
+    let counted = is_refused_file(alloc, boxes.as_bytes(), "refused: limit static count = 257\n")?;
+    let fits = is_refused_file(alloc, headers.as_slice(), "refused: line 1 syntax\n")?;
+    let longer = is_refused_file(alloc, blanks.as_slice(), "refused: too long\n")?;
+    Ok(counted && fits && longer)
 }

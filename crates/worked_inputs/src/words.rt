@@ -1,12 +1,11 @@
-use crate::calls::call;
-use crate::decks::ONE_BLOCK;
 use mesh_cli::Status;
+use std::alloc::{AllocError, Global};
 use std::test::Fail as TestFail;
+use worked_calls::{ONE_BLOCK, call};
 
 // Words that are refused, and their lines; nothing is written.
 #[test]
 fn refused_words_have_their_lines(rt: HostRuntime) -> Result<(), TestFail> {
-    let alloc = rt.alloc();
     let none: [&str; 0] = [];
     let rows: [(&[&str], &str); 18] = [
         (&none, "usage: no input\n"),
@@ -29,19 +28,19 @@ fn refused_words_have_their_lines(rt: HostRuntime) -> Result<(), TestFail> {
         (&["-w", "0", "-d=", "-i", "f"], "usage: -w\n"),
     ];
     for (words, line) in rows {
-        let called = call(alloc, words, ONE_BLOCK.as_bytes())?;
-        assert_eq!(rt; called.status, Status::Usage);
-        assert_eq!(rt; called.status.code(), 1);
-        assert_eq!(rt; called.out.printed(), line.as_bytes());
-        assert_eq!(rt; called.depot.written().len(), 0);
+        assert!(rt; is_refused(rt.alloc(), words, line)?, "{line}");
     }
     Ok(())
+}
+
+fn is_refused(alloc: Global, words: &[&str], line: &str) -> Result<bool, AllocError> {
+    let called = call(alloc, words, ONE_BLOCK.as_bytes())?;
+    Ok(called.status.code() == 1 && called.ended(Status::Usage, line, 0))
 }
 
 // Other ways to write the same words.
 #[test]
 fn accepted_words_run_the_deck(rt: HostRuntime) -> Result<(), TestFail> {
-    let alloc = rt.alloc();
     let rows: [&[&str]; 5] = [
         &["-i=deck", "parthenon/time/nlim=0"],
         &["-ideck", "parthenon/time/nlim=0"],
@@ -63,13 +62,13 @@ fn accepted_words_run_the_deck(rt: HostRuntime) -> Result<(), TestFail> {
         ],
         &["-w", "0000000001", "-i", "deck", "parthenon/time/nlim=0"],
     ];
-    for words in rows {
-        let called = call(alloc, words, ONE_BLOCK.as_bytes())?;
-        assert_eq!(rt; called.status, Status::Done);
-        assert_eq!(rt;
-            called.out.printed(),
-            b"done cycles=0 blocks=1 total=8\n".as_slice()
-        );
+    for (at, words) in rows.iter().enumerate() {
+        assert!(rt; is_run(rt.alloc(), words)?, "at {at}");
     }
     Ok(())
+}
+
+fn is_run(alloc: Global, words: &[&str]) -> Result<bool, AllocError> {
+    let called = call(alloc, words, ONE_BLOCK.as_bytes())?;
+    Ok(called.ended(Status::Done, "done cycles=0 blocks=1 total=8\n", 2))
 }

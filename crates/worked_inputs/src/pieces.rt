@@ -1,8 +1,8 @@
 // Inputs that come in pieces: a byte each, cut within line ends and in a comment, and cut before what is no text.
-use crate::decks::ONE_BLOCK;
 use input_file::{Deck, DeckFault, DeckReader, parse};
 use std::alloc::Global;
 use std::test::Fail as TestFail;
+use worked_calls::ONE_BLOCK;
 
 /// The deck with CR LF at its ends of lines, and a comment. It is cut between each CR and its LF, and in the comment.
 const CUT_IN_LINE_ENDS: [&str; 15] = [
