@@ -29,10 +29,14 @@ pub(crate) fn check_held(
     held: DenseHeld,
 ) -> Result<CutHeld, NoMemory>
     requires held { IsHeldIn (settings_of problem.now) tree.now layout.now held }
-    requires fits { MaskFits (settings_of problem.now) (leaves tree.now) (mask_of (length (leaves tree.now)) held.slots) }
-    ensures held { IfOk result (λ c. held_of tree.now problem.now.cells c.held ≡ check_held_of (settings_of problem.now) (held_of tree.now problem.now.cells held)) }
+    requires fits { MaskFits (settings_of problem.now) (leaves tree.now)
+        (mask_of (length (leaves tree.now)) held.slots) }
+    ensures held { IfOk result (λ c. held_of tree.now problem.now.cells c.held
+        ≡ check_held_of (settings_of problem.now) (held_of tree.now problem.now.cells held)) }
     ensures kept { IfOk result (λ c. IsHeldIn (settings_of problem.now) tree.now layout.now c.held) }
-    ensures dropped { IfOk result (λ c. c.dropped.items ≡ table (field_count (settings_of problem.now)) (drop_at_check (settings_of problem.now) (held_of tree.now problem.now.cells held))) }
+    ensures dropped { IfOk result (λ c. c.dropped.items
+        ≡ table (field_count (settings_of problem.now))
+        (drop_at_check (settings_of problem.now) (held_of tree.now problem.now.cells held))) }
 {
     let slots = keep_by_check(
         alloc,

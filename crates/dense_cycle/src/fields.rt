@@ -53,7 +53,10 @@ impl StagedFields {
 
     /// Adds what a stage makes of the next field.
     fn push(&mut self, calls: Items<bool>, advanced: Advanced) -> Result<(), NoMemory>
-        ensures { (p : Settings) (m : Mesh) (n : ℕ) → HasFields p m n self.old → calls ≡ map (exchange_calls p m n) m.leaves → advanced.totals ≡ field_list m (staged p m n) → advanced.inflow ≡ inflow_of p m n → advanced.outflow ≡ outflow_of p m n → OnOk result (HasFields p m (n + 1) self.new) }
+        ensures { (p : Settings) (m : Mesh) (n : ℕ) → HasFields p m n self.old
+            → calls ≡ map (exchange_calls p m n) m.leaves → advanced.totals ≡ field_list m (staged p m n)
+            → advanced.inflow ≡ inflow_of p m n → advanced.outflow ≡ outflow_of p m n
+            → OnOk result (HasFields p m (n + 1) self.new) }
     {
         let passed = DomainFlow {
             inflow: advanced.inflow,
@@ -80,9 +83,11 @@ fn push_field(
     requires mesh { CanStage (settings_of problem.now) tree.now layout.now lists.now }
     requires field { field < length problem.now.moves }
     requires work { FitsWork layout.now (length (leaves tree.now)) work.old }
-    requires fields { HasFields (settings_of problem.now) (mesh_of tree.now problem.now.cells lists.now) field into.old }
+    requires fields { HasFields (settings_of problem.now)
+        (mesh_of tree.now problem.now.cells lists.now) field into.old }
     ensures work { OnOk result (FitsWork layout.now (length (leaves tree.now)) work.new) }
-    ensures fields { OnOk result (HasFields (settings_of problem.now) (mesh_of tree.now problem.now.cells lists.now) (field + 1) into.new) }
+    ensures fields { OnOk result (HasFields (settings_of problem.now) (mesh_of tree.now problem.now.cells lists.now)
+        (field + 1) into.new) }
 {
     let calls = exchange(alloc, problem, tree, layout, lists, field, &mut work.ghosts)?;
     let advanced = advance(
@@ -110,7 +115,8 @@ pub(crate) fn stage_fields(
     requires mesh { CanStage (settings_of problem.now) tree.now layout.now lists.now }
     requires work { FitsWork layout.now (length (leaves tree.now)) work.old }
     ensures work { OnOk result (FitsWork layout.now (length (leaves tree.now)) work.new) }
-    ensures fields { IfOk result (HasFields (settings_of problem.now) (mesh_of tree.now problem.now.cells lists.now) (field_count (settings_of problem.now))) }
+    ensures fields { IfOk result (HasFields (settings_of problem.now) (mesh_of tree.now problem.now.cells lists.now)
+        (field_count (settings_of problem.now))) }
 {
     let mut staged = StagedFields::empty(alloc);
     for field in 0..problem.moves.len() as u32 {

@@ -1,8 +1,8 @@
 //! A cycle of the dense run: its stages, its reaction, its check and its tags, on the tree of the cycle.
 //!
-//! A [`DenseState`] is a mesh in lists with what is kept on it and the counters of its leaves. [`settle`] takes one to the state
-//! after the check, and tells the tags, the flows and the drops of the cycle. What it does is the rules' own cycle: every field
-//! stands on every leaf, and what is kept is reckoned beside it.
+//! A [`DenseState`] is a mesh in lists with what is kept on it and the counters of its leaves. [`settle`] takes one to
+//! the state after the check, and tells the tags, the flows and the drops of the cycle. What it does is the rules' own
+//! cycle: every field stands on every leaf, and what is kept is reckoned beside it.
 #![tactic(auto)]
 
 mod check;

@@ -31,7 +31,8 @@ pub(crate) struct ReactedHeld {
     pub dropped: Vec<u128>,
 }
 
-/// The reaction: a kernel changes each cell, what is then above the threshold is kept, and what is not kept is made zero.
+/// The reaction: a kernel changes each cell, what is then above the threshold is kept, and what is not kept is made
+/// zero.
 pub(crate) fn react_held<C: CellKernel>(
     alloc: Global,
     kernel: &C,
@@ -42,11 +43,22 @@ pub(crate) fn react_held<C: CellKernel>(
 ) -> Result<ReactedHeld, NoMemory>
     requires held { IsHeldIn (settings_of problem.now) tree.now layout.now held.now }
     requires fields { C.fields kernel.now ≡ field_count (settings_of problem.now) }
-    ensures held { IfOk result (λ r. held_of tree.now problem.now.cells r.held ≡ react_held_of (settings_of problem.now) (C.reacts (C.code kernel.now)) (held_of tree.now problem.now.cells held.now)) }
+    ensures held { IfOk result (λ r. held_of tree.now problem.now.cells r.held
+        ≡ react_held_of (settings_of problem.now) (C.reacts (C.code kernel.now))
+        (held_of tree.now problem.now.cells held.now)) }
     ensures kept { IfOk result (λ r. IsHeldIn (settings_of problem.now) tree.now layout.now r.held) }
-    ensures made { IfOk result (λ r. r.made.items ≡ table (field_count (settings_of problem.now)) (made_of (C.reacts (C.code kernel.now)) (field_count (settings_of problem.now)) (mesh_of tree.now problem.now.cells held.now.lists))) }
-    ensures used { IfOk result (λ r. r.used.items ≡ table (field_count (settings_of problem.now)) (used_of (C.reacts (C.code kernel.now)) (field_count (settings_of problem.now)) (mesh_of tree.now problem.now.cells held.now.lists))) }
-    ensures dropped { IfOk result (λ r. r.dropped.items ≡ table (field_count (settings_of problem.now)) (drop_of_reaction (settings_of problem.now) (C.reacts (C.code kernel.now)) (held_of tree.now problem.now.cells held.now))) }
+    ensures made { IfOk result (λ r. r.made.items
+        ≡ table (field_count (settings_of problem.now))
+        (made_of (C.reacts (C.code kernel.now)) (field_count (settings_of problem.now))
+        (mesh_of tree.now problem.now.cells held.now.lists))) }
+    ensures used { IfOk result (λ r. r.used.items
+        ≡ table (field_count (settings_of problem.now))
+        (used_of (C.reacts (C.code kernel.now)) (field_count (settings_of problem.now))
+        (mesh_of tree.now problem.now.cells held.now.lists))) }
+    ensures dropped { IfOk result (λ r. r.dropped.items
+        ≡ table (field_count (settings_of problem.now))
+        (drop_of_reaction (settings_of problem.now) (C.reacts (C.code kernel.now))
+        (held_of tree.now problem.now.cells held.now))) }
 {
     let reacted = react(alloc, kernel, problem, tree, layout, held.lists.as_slice())?;
     let slots = keep_by_reaction(

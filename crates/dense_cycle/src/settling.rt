@@ -54,9 +54,12 @@ fn react_cycle<C: CellKernel>(
     requires held { IsHeldIn (settings_of problem.now) tree.now layout.now state.now.held }
     requires fit { IsFit (settings_of problem.now) (state_of tree.now problem.now.cells state.now) }
     requires fields { C.fields kernel.now ≡ field_count (settings_of problem.now) }
-    ensures held { IfOk result (λ r. held_of tree.now problem.now.cells r.held ≡ reacted_to (settings_of problem.now) (C.reacts (C.code kernel.now)) (state_of tree.now problem.now.cells state.now)) }
+    ensures held { IfOk result (λ r. held_of tree.now problem.now.cells r.held
+        ≡ reacted_to (settings_of problem.now) (C.reacts (C.code kernel.now))
+        (state_of tree.now problem.now.cells state.now)) }
     ensures kept { IfOk result (λ r. IsHeldIn (settings_of problem.now) tree.now layout.now r.held) }
-    ensures sums { IfOk result (λ r. HasReacted (settings_of problem.now) (C.reacts (C.code kernel.now)) (state_of tree.now problem.now.cells state.now) r.sums) }
+    ensures sums { IfOk result (λ r. HasReacted (settings_of problem.now) (C.reacts (C.code kernel.now))
+        (state_of tree.now problem.now.cells state.now) r.sums) }
 {
     let staged = run_stages(alloc, problem, tree, layout, state)?;
     let reacted = react_held(alloc, kernel, problem, tree, layout, &staged.held)?;
@@ -85,11 +88,21 @@ pub fn settle<C: CellKernel>(
     requires held { IsHeldIn (settings_of problem.now) tree.now layout.now state.now.held }
     requires fit { IsFit (settings_of problem.now) (state_of tree.now problem.now.cells state.now) }
     requires fields { C.fields kernel.now ≡ field_count (settings_of problem.now) }
-    ensures state { IfOk result (λ r. state_of tree.now problem.now.cells r.state ≡ settled (settings_of problem.now) (C.reacts (C.code kernel.now)) (state_of tree.now problem.now.cells state.now)) }
+    ensures state { IfOk result (λ r. state_of tree.now problem.now.cells r.state
+        ≡ settled (settings_of problem.now) (C.reacts (C.code kernel.now))
+        (state_of tree.now problem.now.cells state.now)) }
     ensures kept { IfOk result (λ r. IsHeldIn (settings_of problem.now) tree.now layout.now r.state.held) }
-    ensures tags { IfOk result (λ r. r.tags.items ≡ tags_of (settings_of problem.now) (C.reacts (C.code kernel.now)) (state_of tree.now problem.now.cells state.now)) }
-    ensures flows { IfOk result (λ r. r.flows ≡ table (field_count (settings_of problem.now)) (flow_of (settings_of problem.now) (C.reacts (C.code kernel.now)) (state_of tree.now problem.now.cells state.now))) }
-    ensures drops { IfOk result (λ r. r.drops ≡ table (field_count (settings_of problem.now)) (drop_of (settings_of problem.now) (C.reacts (C.code kernel.now)) (state_of tree.now problem.now.cells state.now))) }
+    ensures tags { IfOk result (λ r. r.tags.items
+        ≡ tags_of (settings_of problem.now) (C.reacts (C.code kernel.now))
+        (state_of tree.now problem.now.cells state.now)) }
+    ensures flows { IfOk result (λ r. r.flows
+        ≡ table (field_count (settings_of problem.now))
+        (flow_of (settings_of problem.now) (C.reacts (C.code kernel.now))
+        (state_of tree.now problem.now.cells state.now))) }
+    ensures drops { IfOk result (λ r. r.drops
+        ≡ table (field_count (settings_of problem.now))
+        (drop_of (settings_of problem.now) (C.reacts (C.code kernel.now))
+        (state_of tree.now problem.now.cells state.now))) }
 {
     let reacted = react_cycle(alloc, kernel, problem, tree, layout, state)?;
     let leaf_tags = tags(

@@ -43,8 +43,13 @@ fn next_stage(
     requires slots { AreSlots (field_count (settings_of problem.now)) (length (leaves tree.now)) held.now.slots }
     requires work { FitsWork layout.now (length (leaves tree.now)) work.old }
     requires sums { CanAdd (settings_of problem.now) (held_of tree.now problem.now.cells held.now) sums.old }
-    ensures held { (s : State) (n : ℕ) → held_of tree.now problem.now.cells held.now ≡ staged_to (settings_of problem.now) s n → IfOk result (λ next. held_of tree.now problem.now.cells next ≡ staged_to (settings_of problem.now) s (n + 1)) }
-    ensures sums { (s : State) (n : ℕ) → held_of tree.now problem.now.cells held.now ≡ staged_to (settings_of problem.now) s n → HasSums (settings_of problem.now) s n sums.old → OnOk result (HasSums (settings_of problem.now) s (n + 1) sums.new) }
+    ensures held { (s : State) (n : ℕ) → held_of tree.now problem.now.cells held.now
+        ≡ staged_to (settings_of problem.now) s n
+        → IfOk result (λ next. held_of tree.now problem.now.cells next
+        ≡ staged_to (settings_of problem.now) s (n + 1)) }
+    ensures sums { (s : State) (n : ℕ) → held_of tree.now problem.now.cells held.now
+        ≡ staged_to (settings_of problem.now) s n → HasSums (settings_of problem.now) s n sums.old
+        → OnOk result (HasSums (settings_of problem.now) s (n + 1) sums.new) }
     ensures kept { IfOk result (λ next. IsHeldIn (settings_of problem.now) tree.now layout.now next) }
     ensures work { OnOk result (FitsWork layout.now (length (leaves tree.now)) work.new) }
 {
@@ -64,9 +69,11 @@ pub(crate) fn run_stages(
 ) -> Result<StagedCycle, NoMemory>
     requires held { IsHeldIn (settings_of problem.now) tree.now layout.now state.now.held }
     requires fit { IsFit (settings_of problem.now) (state_of tree.now problem.now.cells state.now) }
-    ensures held { IfOk result (λ c. held_of tree.now problem.now.cells c.held ≡ staged_to (settings_of problem.now) (state_of tree.now problem.now.cells state.now) problem.now.nstages) }
+    ensures held { IfOk result (λ c. held_of tree.now problem.now.cells c.held
+        ≡ staged_to (settings_of problem.now) (state_of tree.now problem.now.cells state.now) problem.now.nstages) }
     ensures kept { IfOk result (λ c. IsHeldIn (settings_of problem.now) tree.now layout.now c.held) }
-    ensures sums { IfOk result (λ c. HasSums (settings_of problem.now) (state_of tree.now problem.now.cells state.now) problem.now.nstages c.sums) }
+    ensures sums { IfOk result (λ c. HasSums (settings_of problem.now)
+        (state_of tree.now problem.now.cells state.now) problem.now.nstages c.sums) }
 {
     let mut work = Work::new(alloc, layout, tree.len())?;
     let mut sums = StageSums::zeros(alloc, problem.moves.len())?;

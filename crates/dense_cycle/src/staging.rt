@@ -44,9 +44,14 @@ pub(crate) fn cut_held(
 ) -> Result<CutHeld, NoMemory>
     requires mesh { IsMeshIn (settings_of problem.now) tree.now layout.now lists.items }
     requires slots { AreSlots (field_count (settings_of problem.now)) (length (leaves tree.now)) slots.items }
-    ensures held { IfOk result (λ c. held_of tree.now problem.now.cells c.held ≡ held_by (settings_of problem.now) (mask_of (length (leaves tree.now)) slots.items) (mesh_of tree.now problem.now.cells lists.items)) }
+    ensures held { IfOk result (λ c. held_of tree.now problem.now.cells c.held
+        ≡ held_by (settings_of problem.now) (mask_of (length (leaves tree.now)) slots.items)
+        (mesh_of tree.now problem.now.cells lists.items)) }
     ensures kept { IfOk result (λ c. IsHeldIn (settings_of problem.now) tree.now layout.now c.held) }
-    ensures dropped { IfOk result (λ c. c.dropped.items ≡ table (field_count (settings_of problem.now)) (dropped_of (settings_of problem.now) (mask_of (length (leaves tree.now)) slots.items) (mesh_of tree.now problem.now.cells lists.items))) }
+    ensures dropped { IfOk result (λ c. c.dropped.items
+        ≡ table (field_count (settings_of problem.now))
+        (dropped_of (settings_of problem.now) (mask_of (length (leaves tree.now)) slots.items)
+        (mesh_of tree.now problem.now.cells lists.items))) }
 {
     let cut = cut(alloc, problem, tree, layout, slots.as_slice(), lists)?;
     Ok(CutHeld {
@@ -78,10 +83,15 @@ pub(crate) fn stage(
     requires mesh { CanStage (settings_of problem.now) tree.now layout.now held.now.lists }
     requires slots { AreSlots (field_count (settings_of problem.now)) (length (leaves tree.now)) held.now.slots }
     requires work { FitsWork layout.now (length (leaves tree.now)) work.old }
-    ensures held { IfOk result (λ s. held_of tree.now problem.now.cells s.held ≡ stage_held (settings_of problem.now) (held_of tree.now problem.now.cells held.now)) }
+    ensures held { IfOk result (λ s. held_of tree.now problem.now.cells s.held
+        ≡ stage_held (settings_of problem.now) (held_of tree.now problem.now.cells held.now)) }
     ensures kept { IfOk result (λ s. IsHeldIn (settings_of problem.now) tree.now layout.now s.held) }
-    ensures passed { IfOk result (λ s. s.passed.items ≡ table (field_count (settings_of problem.now)) (passed_of (settings_of problem.now) (mesh_of tree.now problem.now.cells held.now.lists))) }
-    ensures dropped { IfOk result (λ s. s.dropped.items ≡ table (field_count (settings_of problem.now)) (drop_of_stage (settings_of problem.now) (held_of tree.now problem.now.cells held.now))) }
+    ensures passed { IfOk result (λ s. s.passed.items
+        ≡ table (field_count (settings_of problem.now))
+        (passed_of (settings_of problem.now) (mesh_of tree.now problem.now.cells held.now.lists))) }
+    ensures dropped { IfOk result (λ s. s.dropped.items
+        ≡ table (field_count (settings_of problem.now))
+        (drop_of_stage (settings_of problem.now) (held_of tree.now problem.now.cells held.now))) }
     ensures work { OnOk result (FitsWork layout.now (length (leaves tree.now)) work.new) }
 {
     let lists = held.lists.as_slice();

@@ -12,7 +12,8 @@ pub struct DenseHeld {
     pub slots: Items<FieldSlots>,
 }
 
-/// What a cycle starts with: a mesh, what is kept on it, and for each leaf how often in a row it has wished to derefine.
+/// What a cycle starts with: a mesh, what is kept on it, and for each leaf how often in a row it has wished to
+/// derefine.
 #[derive(Drop)]
 pub struct DenseState {
     pub held: DenseHeld,

@@ -53,7 +53,8 @@ pub(crate) fn add_passed(flows: &mut Vec<Flow>, passed: &[DomainFlow])
     requires flows { AreSmallFlows flows.old.items }
     requires small { All IsSmallPassed passed.now }
     ensures count { length flows.new.items ≡ length flows.old.items }
-    ensures each { (k : ℕ) → k < length flows.old.items → flow_at flows.new.items k ≡ flow_with (flow_at flows.old.items k) (passed_at passed.now k) }
+    ensures each { (k : ℕ) → k < length flows.old.items
+        → flow_at flows.new.items k ≡ flow_with (flow_at flows.old.items k) (passed_at passed.now k) }
 {
     for i in 0..passed.len() {
         flows[i] = with_passed(flows[i], passed[i]);
@@ -66,7 +67,8 @@ pub(crate) fn add_each(numbers: &mut Vec<u128>, more: &[u128])
     requires numbers { All (λ n. n < 2 ^ 100) numbers.old.items }
     requires more { All (λ n. n < 2 ^ 64) more.now }
     ensures count { length numbers.new.items ≡ length numbers.old.items }
-    ensures each { (k : ℕ) → k < length numbers.old.items → slice_index numbers.new.items k ≡ slice_index numbers.old.items k + slice_index more.now k }
+    ensures each { (k : ℕ) → k < length numbers.old.items
+        → slice_index numbers.new.items k ≡ slice_index numbers.old.items k + slice_index more.now k }
 {
     for i in 0..more.len() {
         numbers[i] += more[i];
@@ -78,7 +80,9 @@ pub(crate) fn set_reacted(flows: &mut Vec<Flow>, made: &[u128], used: &[u128])
     requires made { length made.now ≡ length flows.old.items }
     requires used { length used.now ≡ length flows.old.items }
     ensures count { length flows.new.items ≡ length flows.old.items }
-    ensures each { (k : ℕ) → k < length flows.old.items → flow_at flows.new.items k ≡ reacted_flow (flow_at flows.old.items k) (slice_index made.now k) (slice_index used.now k) }
+    ensures each { (k : ℕ) → k < length flows.old.items
+        → flow_at flows.new.items k ≡ reacted_flow (flow_at flows.old.items k) (slice_index made.now k)
+        (slice_index used.now k) }
 {
     for i in 0..made.len() {
         flows[i] = Flow {

@@ -27,7 +27,8 @@ use problem_set::Problem;
 use std::alloc::Global;
 use std::marker::Model;
 
-/// The dense run of a problem, after some of its cycles: every field in every cell of every leaf, and what is kept of them.
+/// The dense run of a problem, after some of its cycles: every field in every cell of every leaf, and what is kept of
+/// them.
 #[derive(Drop)]
 pub struct DenseRun<'a> {
     alloc: Global,
@@ -78,8 +79,9 @@ fn no_flows(alloc: Global, problem: &Problem) -> Result<(Flows, Items<u128>), No
 }
 
 impl<'a> DenseRun<'a> {
-    /// The run before its first cycle: on the tree of the static boxes, each cell with its share of the amounts of the boxes
-    /// that hold it. TooManyAtStart comes where that tree has more than 65,536 leaves; TooManyBlocks never comes.
+    /// The run before its first cycle: on the tree of the static boxes, each cell with its share of the amounts of the
+    /// boxes that hold it. TooManyAtStart comes where that tree has more than 65,536 leaves; TooManyBlocks never
+    /// comes.
     pub fn start(alloc: Global, problem: &'a Problem) -> Result<DenseRun<'a>, DenseFault>
         ensures started { IfOk result (λ run. run ≡ record { problem = settings_of problem.now; cycle = 0 }) }
         ensures running { OnOk result (IsRunning (run_of (settings_of problem.now) 0)) }
@@ -99,8 +101,8 @@ impl<'a> DenseRun<'a> {
         })
     }
 
-    /// Runs one more cycle. TooManyBlocks comes where the next tree has more than 65,536 leaves, with the number of the cycle
-    /// and how many they are; TooManyAtStart never comes. After a fault the run is as before.
+    /// Runs one more cycle. TooManyBlocks comes where the next tree has more than 65,536 leaves, with the number of
+    /// the cycle and how many they are; TooManyAtStart never comes. After a fault the run is as before.
     pub fn cycle(&mut self) -> Result<(), DenseFault>
         requires { self.old.cycle < self.old.problem.nlim }
         ensures next { OnOk result (self.new ≡ record self.old { cycle = self.old.cycle + 1 }) }
@@ -195,8 +197,8 @@ impl<'a> DenseRun<'a> {
 
     /// The files of the run so far: each dump that was due, and last the history once all cycles were run.
     ///
-    /// A run keeps no dumps, so the problem is run anew up to the same cycle: that takes the time of the cycles once more, and
-    /// memory for a second run and for all the files.
+    /// A run keeps no dumps, so the problem is run anew up to the same cycle: that takes the time of the cycles once
+    /// more, and memory for a second run and for all the files.
     pub fn files(&self, prefix: &str) -> Result<Files, NoMemory>
         ensures { IfOk result (λ files. files ≡ map file_of (files_until self.now.problem prefix.now self.now.cycle)) }
     {
@@ -205,7 +207,8 @@ impl<'a> DenseRun<'a> {
 
     /// Appends the lines of the last cycle in the history, of the opening before the first one.
     pub fn push_history(&self, into: &mut Vec<u8>) -> Result<(), NoMemory>
-        ensures { OnOk result (into.new.items ≡ into.old.items ++ lines_of_cycle self.now.problem (kernel_of self.now.problem) self.now.cycle) }
+        ensures { OnOk result (into.new.items
+            ≡ into.old.items ++ lines_of_cycle self.now.problem (kernel_of self.now.problem) self.now.cycle) }
     {
         let entries = entries_after(
             self.alloc,

@@ -55,7 +55,9 @@ pub(crate) fn entries_after(
     requires held { IsHeldIn (settings_of problem.now) tree.now layout.now state.now.held }
     requires flows { length flows.now ≡ field_count (settings_of problem.now) }
     requires drops { length drops.now ≡ field_count (settings_of problem.now) }
-    ensures { IfOk result (λ entries. entries.items ≡ entries_of (settings_of problem.now) (reached_in (settings_of problem.now) tree.now state.now flows.now drops.now)) }
+    ensures { IfOk result (λ entries. entries.items
+        ≡ entries_of (settings_of problem.now)
+        (reached_in (settings_of problem.now) tree.now state.now flows.now drops.now)) }
 {
     let mut entries = Vec::new(alloc);
     for field in 0..problem.moves.len() as u32 {

@@ -14,7 +14,8 @@ use std::alloc::Global;
 /// The kernel of a problem's reactions.
 pub(crate) fn kernel_of(alloc: Global, problem: &Problem) -> Result<ReactKernel, NoMemory>
     ensures fields { IfOk result (λ k. ⟦<ReactKernel as CellKernel>⟧.fields k ≡ field_count (settings_of problem.now)) }
-    ensures reacts { IfOk result (λ k. ⟦<ReactKernel as CellKernel>⟧.reacts (⟦<ReactKernel as CellKernel>⟧.code k) ≡ kernel_of_settings (settings_of problem.now)) }
+    ensures reacts { IfOk result (λ k. ⟦<ReactKernel as CellKernel>⟧.reacts (⟦<ReactKernel as CellKernel>⟧.code k)
+        ≡ kernel_of_settings (settings_of problem.now)) }
 {
     let fields = problem.moves.len() as u32;
     let kernel = ReactKernel::new(alloc, problem.reactions.as_slice(), fields)?;

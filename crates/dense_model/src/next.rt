@@ -49,7 +49,9 @@ fn remeshes(problem: &Problem, cycle: u32) -> bool
 
 /// A next tree that is refused stops the run at its cycle.
 fn stops_at(fault: TreeFault, cycle: u32) -> DenseFault
-    ensures { (p : Settings) (s : State) → remeshes_at p cycle ≡ true → RefusedByCount s.mesh.shape (next_tree_of p s.mesh (tags_of p (kernel_of_settings p) s)) fault → StopsCycle p s cycle result }
+    ensures { (p : Settings) (s : State) → remeshes_at p cycle ≡ true
+        → RefusedByCount s.mesh.shape (next_tree_of p s.mesh (tags_of p (kernel_of_settings p) s)) fault
+        → StopsCycle p s cycle result }
 {
     match fault {
         TreeFault::NoMemory => DenseFault::NoMemory,
@@ -68,11 +70,15 @@ fn tree_by(
     cycle: u32,
 ) -> Result<Tree, DenseFault>
     requires fit { IsFit (settings_of problem.now) (state_of tree.now problem.now.cells before.now) }
-    requires tags { tags.now ≡ tags_of (settings_of problem.now) (kernel_of_settings (settings_of problem.now)) (state_of tree.now problem.now.cells before.now) }
+    requires tags { tags.now ≡ tags_of (settings_of problem.now) (kernel_of_settings (settings_of problem.now))
+        (state_of tree.now problem.now.cells before.now) }
     requires due { remeshes_at (settings_of problem.now) cycle ≡ true }
-    ensures next { IfOk result (λ next. next ≡ tree_with tree.now.shape (next_tree_of (settings_of problem.now) (state_of tree.now problem.now.cells before.now).mesh tags.now)) }
+    ensures next { IfOk result (λ next. next
+        ≡ tree_with tree.now.shape (next_tree_of (settings_of problem.now)
+        (state_of tree.now problem.now.cells before.now).mesh tags.now)) }
     ensures near { IfOk result (λ next. IsNear problem.now.shape (is_inner_of tree.now) (is_inner_of next)) }
-    ensures fault { IfErr result (StopsCycle (settings_of problem.now) (state_of tree.now problem.now.cells before.now) cycle) }
+    ensures fault { IfErr result (StopsCycle (settings_of problem.now)
+        (state_of tree.now problem.now.cells before.now) cycle) }
 {
     match next_tree(alloc, tree, tags) {
         Ok(next) => Ok(next),
@@ -92,9 +98,12 @@ fn carry(
     requires held { IsHeldIn (settings_of problem.now) tree.now layout.now state.now.held }
     requires shape { next.now.shape ≡ problem.now.shape }
     requires near { IsNear problem.now.shape (is_inner_of tree.now) (is_inner_of next.now) }
-    ensures state { IfOk result (λ new. state_of next.now problem.now.cells new ≡ state_on (settings_of problem.now) (state_of tree.now problem.now.cells state.now) next.now) }
-    ensures lists { IfOk result (λ new. HaveLeafLists (field_count (settings_of problem.now)) (leaves next.now) new.held.lists) }
-    ensures slots { IfOk result (λ new. AreSlots (field_count (settings_of problem.now)) (length (leaves next.now)) new.held.slots) }
+    ensures state { IfOk result (λ new. state_of next.now problem.now.cells new
+        ≡ state_on (settings_of problem.now) (state_of tree.now problem.now.cells state.now) next.now) }
+    ensures lists { IfOk result (λ new. HaveLeafLists (field_count (settings_of problem.now))
+        (leaves next.now) new.held.lists) }
+    ensures slots { IfOk result (λ new. AreSlots (field_count (settings_of problem.now))
+        (length (leaves next.now)) new.held.slots) }
 {
     let lists = remap(
         alloc,
@@ -129,7 +138,8 @@ fn end_on_tree(
     requires settled { IsSettled (settings_of problem.now) tree.now layout.now before.now settled }
     requires due { remeshes_at (settings_of problem.now) cycle ≡ true }
     ensures next { IfOk result (IsNextCycle (settings_of problem.now) tree.now layout.now before.now cycle) }
-    ensures fault { IfErr result (StopsCycle (settings_of problem.now) (state_of tree.now problem.now.cells before.now) cycle) }
+    ensures fault { IfErr result (StopsCycle (settings_of problem.now)
+        (state_of tree.now problem.now.cells before.now) cycle) }
 {
     let next = tree_by(alloc, problem, tree, before, settled.tags.as_slice(), cycle)?;
     let _ = next.len();
@@ -159,8 +169,8 @@ fn settle_problem(
     Ok(settled)
 }
 
-/// The next cycle of a run, by its number: on the next tree where that is due, or refused where it has too many leaves. Nothing
-/// of what stood before is changed.
+/// The next cycle of a run, by its number: on the next tree where that is due, or refused where it has too many
+/// leaves. Nothing of what stood before is changed.
 pub(crate) fn next_cycle(
     alloc: Global,
     problem: &Problem,
@@ -172,7 +182,8 @@ pub(crate) fn next_cycle(
     requires held { IsHeldIn (settings_of problem.now) tree.now layout.now before.now.held }
     requires fit { IsFit (settings_of problem.now) (state_of tree.now problem.now.cells before.now) }
     ensures next { IfOk result (IsNextCycle (settings_of problem.now) tree.now layout.now before.now cycle) }
-    ensures fault { IfErr result (StopsCycle (settings_of problem.now) (state_of tree.now problem.now.cells before.now) cycle) }
+    ensures fault { IfErr result (StopsCycle (settings_of problem.now)
+        (state_of tree.now problem.now.cells before.now) cycle) }
 {
     let settled = settle_problem(alloc, problem, tree, layout, before)?;
     if remeshes(problem, cycle) {

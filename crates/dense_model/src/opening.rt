@@ -48,7 +48,8 @@ fn stops_at_start(fault: TreeFault) -> DenseFault
 
 /// The tree at the start.
 fn opening_tree(alloc: Global, problem: &Problem) -> Result<Tree, DenseFault>
-    ensures tree { IfOk result (λ tree. tree ≡ tree_with problem.now.shape (opening_tree_of (settings_of problem.now))) }
+    ensures tree { IfOk result (λ tree. tree
+        ≡ tree_with problem.now.shape (opening_tree_of (settings_of problem.now))) }
     ensures fault { IfErr result (CannotStart (settings_of problem.now)) }
 {
     let boxes = static_boxes(alloc, problem)?;
@@ -76,7 +77,8 @@ fn opening_on(
     requires tree { tree.now ≡ tree_with problem.now.shape (opening_tree_of (settings_of problem.now)) }
     requires dims { layout.now.dims ≡ problem.now.shape.dims }
     requires cells { layout.now.cells ≡ problem.now.cells }
-    ensures state { IfOk result (λ state. state_of tree.now problem.now.cells state ≡ opening_state (settings_of problem.now)) }
+    ensures state { IfOk result (λ state. state_of tree.now problem.now.cells state
+        ≡ opening_state (settings_of problem.now)) }
     ensures held { IfOk result (λ state. IsHeldIn (settings_of problem.now) tree.now layout.now state.held) }
 {
     let counters = no_counters(alloc, tree.len())?;
@@ -101,9 +103,11 @@ pub(crate) struct Opened {
 
 /// Opens a run: on the least balanced tree that the static boxes want, with the amounts of the boxes.
 pub(crate) fn open(alloc: Global, problem: &Problem) -> Result<Opened, DenseFault>
-    ensures state { IfOk result (λ o. state_of o.tree problem.now.cells o.state ≡ opening_state (settings_of problem.now)) }
+    ensures state { IfOk result (λ o. state_of o.tree problem.now.cells o.state
+        ≡ opening_state (settings_of problem.now)) }
     ensures held { IfOk result (λ o. IsHeldIn (settings_of problem.now) o.tree o.layout o.state.held) }
-    ensures runs { OnOk result (run_of (settings_of problem.now) 0 ≡ running (start_of (settings_of problem.now) (opening_state (settings_of problem.now)))) }
+    ensures runs { OnOk result (run_of (settings_of problem.now) 0
+        ≡ running (start_of (settings_of problem.now) (opening_state (settings_of problem.now)))) }
     ensures fault { IfErr result (CannotStart (settings_of problem.now)) }
 {
     let layout = Layout::of(problem);

@@ -44,7 +44,8 @@ fn keeps(slots: &[Slot], leaf: Option<u32>) -> bool
 fn is_kept_below(dims: u32, slots: &[Slot], numbers: &[Option<u32>; 8]) -> bool
     requires least { 1 ≤ dims }
     requires most { dims ≤ 3 }
-    ensures { result ≡ list_any (λ j. keeps_of slots.now (slice_index_or numbers.now j None)) (range_with_len 0 (parts_of dims)) }
+    ensures { result ≡ list_any (λ j. keeps_of slots.now (slice_index_or numbers.now j None))
+        (range_with_len 0 (parts_of dims)) }
 {
     for j in 0..parts(dims) {
         if keeps(slots, numbers[j as usize]) {
@@ -93,8 +94,8 @@ fn field_slots(
 
 /// What is kept on the leaves of the next tree, by field and leaf.
 ///
-/// A leaf that stays keeps its slots. A new one keeps a field that its parent or one of its children kept, and has been idle
-/// at no check.
+/// A leaf that stays keeps its slots. A new one keeps a field that its parent or one of its children kept, and has
+/// been idle at no check.
 pub fn carried_slots(
     alloc: Global,
     problem: &Problem,
@@ -104,7 +105,8 @@ pub fn carried_slots(
 ) -> Result<Vec<FieldSlots>, NoMemory>
     requires slots { AreSlots (field_count (settings_of problem.now)) (length (leaves old.now)) slots.now }
     requires shape { next.now.shape ≡ old.now.shape }
-    ensures slots { IfOk result (λ new. AreSlots (field_count (settings_of problem.now)) (length (leaves next.now)) new.items) }
+    ensures slots { IfOk result (λ new. AreSlots (field_count (settings_of problem.now))
+        (length (leaves next.now)) new.items) }
     ensures mask { IfOk result (λ new. AreCarried (settings_of problem.now) old.now next.now slots.now new.items) }
 {
     let origins = origins(alloc, old, next)?;

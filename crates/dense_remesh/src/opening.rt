@@ -78,7 +78,8 @@ fn opening_field(
     boxes: &[StartBox],
 ) -> Result<FieldTotals, NoMemory>
     requires { amounts boxes.now < 2 ^ 62 }
-    ensures { IfOk result (λ lists. lists ≡ map (opening_list layout.now.dims layout.now.cells boxes.now) (leaves tree.now)) }
+    ensures { IfOk result (λ lists. lists ≡ map (opening_list layout.now.dims layout.now.cells boxes.now)
+        (leaves tree.now)) }
 {
     let mut lists = FieldTotals::new(alloc);
     for leaf in 0..tree.len() {
@@ -99,8 +100,10 @@ pub fn opening_lists(
     requires tree { tree.now ≡ tree_with problem.now.shape (opening_tree (settings_of problem.now)) }
     requires dims { layout.now.dims ≡ problem.now.shape.dims }
     requires cells { layout.now.cells ≡ problem.now.cells }
-    ensures mesh { IfOk result (λ lists. mesh_of tree.now problem.now.cells lists.items ≡ opening_mesh (settings_of problem.now)) }
-    ensures lists { IfOk result (λ lists. HaveLeafLists (field_count (settings_of problem.now)) (leaves tree.now) lists.items) }
+    ensures mesh { IfOk result (λ lists. mesh_of tree.now problem.now.cells lists.items
+        ≡ opening_mesh (settings_of problem.now)) }
+    ensures lists { IfOk result (λ lists. HaveLeafLists (field_count (settings_of problem.now))
+        (leaves tree.now) lists.items) }
 {
     let mut lists = Vec::new(alloc);
     for field in 0..problem.fields.count() {

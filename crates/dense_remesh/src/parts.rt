@@ -94,9 +94,11 @@ pub(crate) fn write_shares(layout: &Layout, child: u32, coarse: &[u64], into: &m
 fn write_child_sums(layout: &Layout, child: u32, fine: &[u64], into: &mut [u64])
     requires child { child < parts_of layout.now.dims }
     requires fine { length fine.now ≡ interior_len layout.now }
-    requires small { SumsBelow (2 ^ 62) (factors_of layout.now.dims) (half_cells_of layout.now) fine.now (whole_box layout.now.cells) }
+    requires small { SumsBelow (2 ^ 62) (factors_of layout.now.dims) (half_cells_of layout.now) fine.now
+        (whole_box layout.now.cells) }
     requires into { length into.old ≡ interior_len layout.now }
-    ensures inside { HasSums (factors_of layout.now.dims) (half_cells_of layout.now) fine.now (whole_box layout.now.cells) into.new (part_box_of layout.now child) }
+    ensures inside { HasSums (factors_of layout.now.dims) (half_cells_of layout.now) fine.now
+        (whole_box layout.now.cells) into.new (part_box_of layout.now child) }
     ensures outside { StaysOffBox (half_cells_of layout.now) (part_box_of layout.now child) into.old into.new }
 {
     let each = factors(layout.dims);
@@ -124,7 +126,8 @@ pub(crate) fn write_sums(
     field: &[Cells],
     into: &mut [u64],
 )
-    requires lists { (j : ℕ) → j < parts_of layout.now.dims → IsChildList layout.now field.now (slice_index_or numbers.now j None) }
+    requires lists { (j : ℕ) → j < parts_of layout.now.dims
+        → IsChildList layout.now field.now (slice_index_or numbers.now j None) }
     requires into { length into.old ≡ interior_len layout.now }
     ensures { HasChildSums layout.now field.now numbers.now (parts_of layout.now.dims) into.new }
 {

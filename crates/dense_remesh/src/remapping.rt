@@ -29,7 +29,8 @@ use std::alloc::Global;
 fn shares(alloc: Global, layout: &Layout, at: &Loc, coarse: &[u64]) -> Result<Cells, NoMemory>
     requires { length coarse.now ≡ interior_len layout.now }
     ensures size { IfOk result (λ list. length list ≡ interior_len layout.now) }
-    ensures shares { IfOk result (λ list. HasParentShares layout.now coarse.now (child_number layout.now.dims at.now) list) }
+    ensures shares { IfOk result (λ list. HasParentShares layout.now coarse.now
+        (child_number layout.now.dims at.now) list) }
 {
     let place = [u64::from(at.l1), u64::from(at.l2), u64::from(at.l3)];
     let number = number_in_parent(layout.dims, &place);
@@ -45,7 +46,8 @@ fn sums(
     numbers: &[Option<u32>; 8],
     field: &[Cells],
 ) -> Result<Cells, NoMemory>
-    requires { (j : ℕ) → j < parts_of layout.now.dims → IsChildList layout.now field.now (slice_index_or numbers.now j None) }
+    requires { (j : ℕ) → j < parts_of layout.now.dims
+        → IsChildList layout.now field.now (slice_index_or numbers.now j None) }
     ensures size { IfOk result (λ list. length list ≡ interior_len layout.now) }
     ensures sums { IfOk result (λ list. HasChildSums layout.now field.now numbers.now (parts_of layout.now.dims) list) }
 {
@@ -81,7 +83,8 @@ fn remapped_field(
     field: &[Cells],
 ) -> Result<FieldTotals, NoMemory>
     requires count { length origins.now ≡ length (leaves next.now) }
-    requires lists { (k : ℕ) (o : Origin) → k < length origins.now → CanTake layout.now field.now (slice_index_or origins.now k o) }
+    requires lists { (k : ℕ) (o : Origin) → k < length origins.now
+        → CanTake layout.now field.now (slice_index_or origins.now k o) }
     ensures { IfOk result (λ lists. AreTaken layout.now field.now (leaves next.now) origins.now lists) }
 {
     let mut lists = FieldTotals::new(alloc);
@@ -93,10 +96,11 @@ fn remapped_field(
     Ok(lists)
 }
 
-/// The totals on the next tree, by field and leaf. Each leaf differs by at most one level from the old leaves in its place.
+/// The totals on the next tree, by field and leaf. Each leaf differs by at most one level from the old leaves in its
+/// place.
 ///
-/// A leaf that stays has its totals, one whose parent was a leaf the shares of the parent's, and one whose children were
-/// leaves the sums of theirs. The old lists are as they were, also where there is no memory for new ones.
+/// A leaf that stays has its totals, one whose parent was a leaf the shares of the parent's, and one whose children
+/// were leaves the sums of theirs. The old lists are as they were, also where there is no memory for new ones.
 pub fn remap(
     alloc: Global,
     problem: &Problem,
@@ -109,7 +113,8 @@ pub fn remap(
     requires shape { next.now.shape ≡ problem.now.shape }
     requires near { IsNear problem.now.shape (is_inner_of old.now) (is_inner_of next.now) }
     ensures mesh { IfOk result (λ new. AreRemapped (settings_of problem.now) old.now next.now lists.now new.items) }
-    ensures lists { IfOk result (λ new. HaveLeafLists (field_count (settings_of problem.now)) (leaves next.now) new.items) }
+    ensures lists { IfOk result (λ new. HaveLeafLists (field_count (settings_of problem.now))
+        (leaves next.now) new.items) }
 {
     let origins = origins(alloc, old, next)?;
     let mut new = Vec::new(alloc);

@@ -48,8 +48,10 @@ fn write_pieces<'a, D: Depot>(
     depot: &mut D,
 ) -> Result<(), OutFault>
     requires { ForSome (D.seen depot.old).written IsClosed }
-    ensures ok { OnOk result (Gains (D.seen depot.old).written (D.seen depot.new).written (whole_file (name.now, joined walk.old) ∷ [])) }
-    ensures err { OnErr result (GainsPrefix (D.seen depot.old).written (D.seen depot.new).written (whole_file (name.now, joined walk.old) ∷ [])) }
+    ensures ok { OnOk result (Gains (D.seen depot.old).written (D.seen depot.new).written
+        (whole_file (name.now, joined walk.old) ∷ [])) }
+    ensures err { OnErr result (GainsPrefix (D.seen depot.old).written (D.seen depot.new).written
+        (whole_file (name.now, joined walk.old) ∷ [])) }
     ensures after { AfterWrites (result ≡ Err OutFault.Failed) (D.seen depot.old) (D.seen depot.new) }
 {
     depot.begin(name)?;
@@ -65,7 +67,8 @@ fn append_pieces<'a, D: Depot>(
     depot: &mut D,
 ) -> Result<(), OutFault>
     requires { ForSome (D.seen depot.old).written IsOpen }
-    ensures ok { OnOk result ((D.seen depot.new).written ≡ option_map (appended (joined walk.old)) (D.seen depot.old).written) }
+    ensures ok { OnOk result ((D.seen depot.new).written
+        ≡ option_map (appended (joined walk.old)) (D.seen depot.old).written) }
     ensures err { OnErr result (AppendsPrefix (joined walk.old) (D.seen depot.old).written (D.seen depot.new).written) }
     ensures after { AfterWrites (result ≡ Err OutFault.Failed) (D.seen depot.old) (D.seen depot.new) }
 {
@@ -90,7 +93,8 @@ fn push_piece<'a>(walk: &mut DumpWalk<'a>, buffer: &mut Vec<u8>) -> Result<bool,
 /// Appends what is in a buffer to the unfinished file, where it is large, and empties the buffer.
 fn append_large<D: Depot>(buffer: &mut Vec<u8>, depot: &mut D) -> Result<(), OutFault>
     requires { ForSome (D.seen depot.old).written IsOpen }
-    ensures ok { OnOk result (Passes buffer.old.items buffer.new.items (D.seen depot.old).written (D.seen depot.new).written) }
+    ensures ok { OnOk result (Passes buffer.old.items buffer.new.items (D.seen depot.old).written
+        (D.seen depot.new).written) }
     ensures err { OnErr result (AppendsPrefix buffer.old.items (D.seen depot.old).written (D.seen depot.new).written) }
     ensures after { AfterWrites (result ≡ Err OutFault.Failed) (D.seen depot.old) (D.seen depot.new) }
 {

@@ -29,11 +29,11 @@ pub struct RunEnd {
     pub total: u64,
 }
 
-/// Runs a problem to its last cycle, and writes its files: each dump as soon as it is due, and last the history. Their names
-/// begin with the prefix.
+/// Runs a problem to its last cycle, and writes its files: each dump as soon as it is due, and last the history. Their
+/// names begin with the prefix.
 ///
-/// Where a tree has too many leaves the depot gained the dumps of the cycles before. After a fault of writing, or for want of
-/// memory, it gained a prefix of the files, the last one perhaps unfinished.
+/// Where a tree has too many leaves the depot gained the dumps of the cycles before. After a fault of writing, or for
+/// want of memory, it gained a prefix of the files, the last one perhaps unfinished.
 pub fn drive<D: Depot>(
     alloc: Global,
     problem: &Problem,
@@ -45,7 +45,8 @@ pub fn drive<D: Depot>(
         (settings_of problem.now) prefix.now)) }
     ensures completed { OnOk result (IsRunning (run_of (settings_of problem.now) problem.now.nlim)) }
     ensures end { IfOk result (λ end. end ≡ end_of (settings_of problem.now)) }
-    ensures err { IfErr result (Stops (settings_of problem.now) prefix.now (D.seen depot.old).written (D.seen depot.new).written) }
+    ensures err { IfErr result (Stops (settings_of problem.now) prefix.now (D.seen depot.old).written
+        (D.seen depot.new).written) }
     ensures after { AfterWrites (result ≡ Err DriveFault.WriteFault) (D.seen depot.old) (D.seen depot.new) }
 {
     let mut run = DenseRun::start(alloc, problem)?;
@@ -78,7 +79,8 @@ fn write_opening<'a, D: Depot>(
         (settings_of problem.now) prefix.now 0)) }
     ensures lines { OnOk result (history.new.items ≡ history.old.items ++ (history_heading (settings_of problem.now)
         ++ lines_of_cycle (settings_of problem.now) (kernel_of (settings_of problem.now)) 0)) }
-    ensures err { IfErr result (StopsIn (settings_of problem.now) prefix.now 0 (D.seen depot.old).written (D.seen depot.new).written) }
+    ensures err { IfErr result (StopsIn (settings_of problem.now) prefix.now 0 (D.seen depot.old).written
+        (D.seen depot.new).written) }
     ensures after { AfterWrites (result ≡ Err DriveFault.WriteFault) (D.seen depot.old) (D.seen depot.new) }
 {
     push_history_heading(problem, history)?;
@@ -103,7 +105,8 @@ fn advance<'a, D: Depot>(
         (settings_of problem.now) prefix.now (run.old.cycle + 1))) }
     ensures lines { OnOk result (history.new.items ≡ history.old.items
         ++ lines_of_cycle (settings_of problem.now) (kernel_of (settings_of problem.now)) (run.old.cycle + 1)) }
-    ensures err { IfErr result (StopsIn (settings_of problem.now) prefix.now (run.old.cycle + 1) (D.seen depot.old).written (D.seen depot.new).written) }
+    ensures err { IfErr result (StopsIn (settings_of problem.now) prefix.now (run.old.cycle + 1)
+        (D.seen depot.old).written (D.seen depot.new).written) }
     ensures after { AfterWrites (result ≡ Err DriveFault.WriteFault) (D.seen depot.old) (D.seen depot.new) }
 {
     run.cycle()?;
@@ -126,7 +129,8 @@ fn write_cycle<'a, D: Depot>(
         (settings_of problem.now) prefix.now run.now.cycle)) }
     ensures lines { OnOk result (history.new.items ≡ history.old.items
         ++ lines_of_cycle (settings_of problem.now) (kernel_of (settings_of problem.now)) run.now.cycle) }
-    ensures err { IfErr result (StopsAmong (files_at (settings_of problem.now) prefix.now run.now.cycle) (D.seen depot.old).written (D.seen depot.new).written) }
+    ensures err { IfErr result (StopsAmong (files_at (settings_of problem.now) prefix.now run.now.cycle)
+        (D.seen depot.old).written (D.seen depot.new).written) }
     ensures after { AfterWrites (result ≡ Err DriveFault.WriteFault) (D.seen depot.old) (D.seen depot.new) }
 {
     write_due_dump(alloc, run, problem, prefix, depot)?;
@@ -147,7 +151,8 @@ fn write_due_dump<'a, D: Depot>(
     requires closed { ForSome (D.seen depot.old).written IsClosed }
     ensures ok { OnOk result (Gains (D.seen depot.old).written (D.seen depot.new).written (files_at
         (settings_of problem.now) prefix.now run.now.cycle)) }
-    ensures err { IfErr result (StopsWriting (files_at (settings_of problem.now) prefix.now run.now.cycle) (D.seen depot.old).written (D.seen depot.new).written) }
+    ensures err { IfErr result (StopsWriting (files_at (settings_of problem.now) prefix.now run.now.cycle)
+        (D.seen depot.old).written (D.seen depot.new).written) }
     ensures after { AfterWrites (result ≡ Err DriveFault.WriteFault) (D.seen depot.old) (D.seen depot.new) }
 {
     if is_dumped(problem, run.cycles()) {

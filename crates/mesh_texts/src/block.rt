@@ -24,8 +24,8 @@ use morton_order::Loc;
 use package_fields::Registry;
 use problem_set::Problem;
 
-/// Appends the lines of a leaf: its place with the number of fields that are all zero there, and the rows of the others.
-/// `lists` has the totals by field and leaf, in blocks of the layout.
+/// Appends the lines of a leaf: its place with the number of fields that are all zero there, and the rows of the
+/// others. `lists` has the totals by field and leaf, in blocks of the layout.
 pub fn push_block(
     problem: &Problem,
     tree: &Tree,

@@ -20,8 +20,8 @@ use problem_set::Problem;
 use std::alloc::Global;
 use std::marker::Model;
 
-/// A walk over the text of a dump: its heading, its blocks one by one, and its end. Contracts see the pieces that are still
-/// to come.
+/// A walk over the text of a dump: its heading, its blocks one by one, and its end. Contracts see the pieces that are
+/// still to come.
 #[derive(Drop)]
 pub struct DumpWalk<'a> {
     problem: &'a Problem,
@@ -43,9 +43,11 @@ impl<'a> Model for DumpWalk<'a> {
 
     ghost Value = { List (List ℕ) };
 
-    ghost view = { λ w. drop w.given (dump_pieces (settings_of w.problem.now) (mesh_of w.tree.now w.problem.now.cells w.lists.now) w.cycle) };
+    ghost view = { λ w. drop w.given (dump_pieces (settings_of w.problem.now)
+        (mesh_of w.tree.now w.problem.now.cells w.lists.now) w.cycle) };
 
-    ghost invariant = { λ w. HaveBlocks (settings_of w.problem.now) w.tree.now w.layout.now w.lists.now × (w.given ≤ length (leaves w.tree.now) + 2) };
+    ghost invariant = { λ w. HaveBlocks (settings_of w.problem.now) w.tree.now w.layout.now w.lists.now
+        × (w.given ≤ length (leaves w.tree.now) + 2) };
 }
 
 impl<'a> DumpWalk<'a> {
@@ -73,8 +75,8 @@ impl<'a> DumpWalk<'a> {
         }
     }
 
-    /// Appends the next piece and answers true, or appends nothing and answers false exactly where all pieces were given.
-    /// After a refusal the same piece is still to come.
+    /// Appends the next piece and answers true, or appends nothing and answers false exactly where all pieces were
+    /// given. After a refusal the same piece is still to come.
     pub fn next(&mut self, into: &mut Vec<u8>) -> Result<bool, NoMemory>
         ensures step { IfOk result (λ more. Steps more self.old self.new into.old.items into.new.items) }
         ensures refused { OnErr result (self.new ≡ self.old) }

@@ -71,7 +71,8 @@ pub fn push_history_line(
     into: &mut Vec<u8>,
 ) -> Result<(), NoMemory>
     requires { field < field_count (settings_of problem.now) }
-    ensures { OnOk result (into.new.items ≡ into.old.items ++ entry_line (settings_of problem.now) cycle field entry.now) }
+    ensures { OnOk result (into.new.items ≡ into.old.items
+        ++ entry_line (settings_of problem.now) cycle field entry.now) }
 {
     let label = problem.fields.fields()[field as usize].label.as_str();
     push_label(cycle, label, into)?;

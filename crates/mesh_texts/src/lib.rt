@@ -5,8 +5,8 @@
 //! - [`push_history_lines`] gives the lines of a cycle in the history, and [`history_text`] the history from all its lines.
 //! - [`dump_file_name`], [`history_file_name`] and [`is_dumped`] say which files there are.
 //!
-//! Functions whose names begin with `push` append to a text. Where they are refused for want of memory, it may end with a
-//! part of what was to be appended.
+//! Functions whose names begin with `push` append to a text. Where they are refused for want of memory, it may end
+//! with a part of what was to be appended.
 #![tactic(auto)]
 
 mod block;

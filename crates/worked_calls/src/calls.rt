@@ -96,9 +96,7 @@ pub fn failing(alloc: Global, fail: Fail) -> Result<Fails, AllocError> {
 pub fn is_file(written: &Written, at: usize, name: &str, text: &str) -> bool {
     match written.get(at) {
         Some(file) => {
-            file.whole
-                && file.name.as_str() == name
-                && file.bytes.as_bytes() == text.as_bytes()
+            file.whole && file.name.as_str() == name && file.bytes.as_bytes() == text.as_bytes()
         }
         None => false,
     }

@@ -2,8 +2,8 @@
 
 use std::alloc::{AllocError, Global};
 
-/// The deck of the example `reflecting_faces.in` without its comments: four cells between reflecting faces, with 8 in the
-/// first, of which each cell gives a fourth to the right in a cycle.
+/// The deck of the example `reflecting_faces.in` without its comments: four cells between reflecting faces, with 8 in
+/// the first, of which each cell gives a fourth to the right in a cycle.
 pub const ONE_BLOCK: &str = "<parthenon/mesh>
 nx1 = 4
 ix1_bc = reflecting

@@ -1,4 +1,5 @@
-//! Calls of the whole program over depots and sinks in memory, and the decks of worked runs: what the crates of worked tests share.
+//! Calls of the whole program over depots and sinks in memory, and the decks of worked runs: what the crates of worked
+//! tests share.
 #![tactic(auto)]
 
 mod calls;

@@ -3,9 +3,7 @@ use mesh_cli::Status;
 use mesh_outside::{Fail, Fails, Written};
 use std::alloc::{AllocError, Global};
 use std::test::Fail as TestFail;
-use worked_calls::{
-    Called, ONE_BLOCK, ONE_BLOCK_HISTORY, call, call_failing, dump, failing,
-};
+use worked_calls::{Called, ONE_BLOCK, ONE_BLOCK_HISTORY, call, call_failing, dump, failing};
 
 const ROWS: [&str; 3] = ["8 0 0 0", "6 2 0 0", "5 3 0 0"];
 
@@ -94,7 +92,10 @@ const FAULTS: [(Fail, Status, &str, usize, Option<usize>); 15] = [
 #[test]
 fn a_failing_call_leaves_what_was_written(rt: HostRuntime) -> Result<(), TestFail> {
     for (fail, status, line, whole, part) in FAULTS {
-        assert!(rt; leaves(rt.alloc(), fail, status, line, whole, part)?, "after {whole} files");
+        assert!(rt;
+            leaves(rt.alloc(), fail, status, line, whole, part)?,
+            "after {whole} files"
+        );
     }
     Ok(())
 }

@@ -7,7 +7,13 @@ use worked_calls::{FULL_TREE, ONE_BLOCK, call, call_with};
 #[test]
 fn a_run_stops_at_the_cycle_whose_tree_is_too_large(rt: HostRuntime) -> Result<(), TestFail> {
     let called = call(rt.alloc(), &["-i", "deck"], FULL_TREE.as_bytes())?;
-    assert!(rt; called.ended(Status::TooManyBlocks, "too many blocks at cycle 1: 65539\n", 1));
+    assert!(rt;
+        called.ended(
+            Status::TooManyBlocks,
+            "too many blocks at cycle 1: 65539\n",
+            1
+        )
+    );
     assert_eq!(rt; called.status.code(), 6);
     let file = called.depot.written().get(0).ok_or("a file is missing")?;
     assert!(rt; file.whole);

@@ -123,7 +123,11 @@ fn are_refused_long(alloc: Global) -> Result<bool, AllocError> {
     let boxes = many_static_boxes(alloc, 257)?;
     let headers = vec![in alloc; b'<'; 1_048_576]?;
     let blanks = vec![in alloc; b' '; 1_048_577]?;
-    let counted = is_refused_file(alloc, boxes.as_bytes(), "refused: limit static count = 257\n")?;
+    let counted = is_refused_file(
+        alloc,
+        boxes.as_bytes(),
+        "refused: limit static count = 257\n",
+    )?;
     let fits = is_refused_file(alloc, headers.as_slice(), "refused: line 1 syntax\n")?;
     let longer = is_refused_file(alloc, blanks.as_slice(), "refused: too long\n")?;
     Ok(counted && fits && longer)

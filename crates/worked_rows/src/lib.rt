@@ -1,4 +1,5 @@
-//! Worked runs of the whole program over depots in memory: what they write and print. Their answers were worked out by hand.
+//! Worked runs of the whole program over depots in memory: what they write and print. Their answers were worked out by
+//! hand.
 #![tactic(auto)]
 
 #[cfg(test)]

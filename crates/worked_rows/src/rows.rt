@@ -93,10 +93,12 @@ fn the_deck_of_a_seed_has_one_outcome(rt: HostRuntime) -> Result<(), TestFail> {
 fn is_the_same_with_seven(alloc: Global) -> Result<bool, AllocError> {
     let one = call(alloc, &["-g", "7"], b"<")?;
     let seven = call(alloc, &["-g", "7", "-w", "7"], b"<")?;
-    Ok(one.status == Status::Done
-        && one.out.printed().ends_with(b" total=32112\n")
-        && one.out.printed() == seven.out.printed()
-        && same_files(one.depot.written(), seven.depot.written()))
+    Ok(
+        one.status == Status::Done
+            && one.out.printed().ends_with(b" total=32112\n")
+            && one.out.printed() == seven.out.printed()
+            && same_files(one.depot.written(), seven.depot.written()),
+    )
 }
 
 fn same_files(some: &Written, others: &Written) -> bool {

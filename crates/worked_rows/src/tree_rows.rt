@@ -2,8 +2,8 @@
 use crate::rows::Row;
 use worked_calls::{ADAPTIVE_ROW, GRADED_ROW, GRADED_SQUARE, STORED_GRADED_ROW, TWO_DYES};
 
-/// Lines of the last dump of the two dyes: the first has lost a hundredth of 100 at its lower left and given it to its right and
-/// above, and the second, of which a hundredth is nothing, stands.
+/// Lines of the last dump of the two dyes: the first has lost a hundredth of 100 at its lower left and given it to its
+/// right and above, and the second, of which a hundredth is nothing, stands.
 const TWO_DYES_LAST: [&str; 75] = [
     "blocks 16",
     "block 0 level 0 at 0 0 0 zero 1",
