@@ -18,7 +18,7 @@ flux_most true q c d most h = omega arith
 flux_most false q c d most h = omega (arith, div-mul-le_self (q * c) d, mul-le-mul_right {m = q} {n = most} c h)
 
 -- all axes together
-sums_most : (n d most : ℕ) (f g r v rates : ℕ → ℕ) → ((axis : ℕ) → axis < n → f axis * d ≤ most * r axis) → ((axis : ℕ) → axis < n → g axis * d ≤ most * v axis) → ((axis : ℕ) → rates axis ≡ r axis + v axis)
+pub sums_most : (n d most : ℕ) (f g r v rates : ℕ → ℕ) → ((axis : ℕ) → axis < n → f axis * d ≤ most * r axis) → ((axis : ℕ) → axis < n → g axis * d ≤ most * v axis) → ((axis : ℕ) → rates axis ≡ r axis + v axis)
     → sum_axes n (λ axis. f axis + g axis) * d ≤ most * sum_axes n rates
 sums_most zero d most f g r v rates a b e = omega arith
 sums_most (suc n) d most f g r v rates a b e =

@@ -14,7 +14,7 @@ step_most : (high : Bool) (x n : ℕ) → x < n → x + cond high 1 0 < n + 1
 step_most true x n h = omega arith
 step_most false x n h = omega arith
 
-face_within : (l : Layout) (axis : ℕ) (high : Bool) (i : List ℕ) → axis < 3 → IsWithin l.cells i → IsWithin (face_extents l axis) (face_beside i axis high)
+pub face_within : (l : Layout) (axis : ℕ) (high : Bool) (i : List ℕ) → axis < 3 → IsWithin l.cells i → IsWithin (face_extents l axis) (face_beside i axis high)
 face_within l zero high i u w = record { along1 = step_most high _ _ w.along1; along2 = w.along2; along3 = w.along3 }
 face_within l (suc zero) high i u w = record { along1 = w.along1; along2 = step_most high _ _ w.along2; along3 = w.along3 }
 face_within l (suc (suc zero)) high i u w = record { along1 = w.along1; along2 = w.along2; along3 = step_most high _ _ w.along3 }

@@ -1,0 +1,2 @@
+mod ByRates
+mod SlopePays
