@@ -1,9 +1,7 @@
 -- The rates of the bench.
 use Rattle.std.proofs.Common.{◌≡◌, ℕ, zero, suc, ◌+◌, ◌*◌, ◌<◌, ◌≤◌, ◌^◌, [], ◌∷◌, arith, refl}
-use Rattle.problem_set.specs.declared.rates.Rates.{Rates}
 use Rattle.upwind_fluxes.specs.declared.rates.LevelRates.{LevelRates}
 use Rattle.upwind_fluxes.specs.Rates.{AreProper, along}
-use Rattle.transport_kernel.specs.Update.{sum_axes}
 use Rattle.transport_kernel.proofs.Axes.{sum_grows}
 use Rattle.fused_stage.specs.Stage.{FitTogether}
 use Rattle.kernel_bench.specs.Fitting.{FitSlopes}

@@ -1,5 +1,5 @@
 -- By fitting rates cells can pay by the second order.
-use Rattle.std.proofs.Common.{◌≡◌, ℕ, zero, suc, ◌+◌, ◌-◌, ◌*◌, ◌/◌, ◌<◌, ◌≤◌, ◌^◌, Bool, true, false, cond, List, [], ◌∷◌, length, slice_index, min, sym, ap, subst, arith, refl, All}
+use Rattle.std.proofs.Common.{◌≡◌, ℕ, ◌+◌, ◌-◌, ◌*◌, ◌/◌, ◌<◌, ◌≤◌, ◌^◌, Bool, true, false, cond, List, [], ◌∷◌, length, slice_index, min, sym, subst, arith, refl, All}
 use Rattle.std.proofs.Math.Nat.{div-mul-le_self, le_of_mul-le-mul_right, mul-le-mul_left, mul-le-mul_right}
 use Rattle.mesh_num.specs.Portion.{portion}
 use Rattle.block_layout.specs.declared.layout.Layout.{Layout}
@@ -13,7 +13,7 @@ use Rattle.upwind_fluxes.specs.declared.rates.LevelRates.{LevelRates}
 use Rattle.upwind_fluxes.specs.Fluxes.{donor_total}
 use Rattle.upwind_fluxes.specs.Rates.{AreProper, along, rate_of}
 use Rattle.transport_kernel.specs.Update.{CanPass, face_beside, listed, sum_axes, total_at}
-use Rattle.slope_kernel.specs.Slopes.{AreSlopeFluxes, donor_at, slope_flux}
+use Rattle.slope_kernel.specs.Slopes.{AreSlopeFluxes, donor_at}
 use Rattle.fused_stage.proofs.ClosedSides.{donor_bound}
 use Rattle.fused_stage.proofs.FittingRates.{sums_most}
 use Rattle.fused_stage.proofs.LayerCells.{here_below, here_is}

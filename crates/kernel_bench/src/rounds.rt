@@ -89,7 +89,13 @@ impl Run {
         let mut best = u128::from(u64::MAX);
         for _ in 0..ROUNDS {
             let start = Instant::now(clock);
-            make_all(self.case, &self.layout, &mut self.blocks, &mut self.faces, times);
+            make_all(
+                self.case,
+                &self.layout,
+                &mut self.blocks,
+                &mut self.faces,
+                times,
+            );
             if let Some(took) = nanoseconds_since(clock, start) {
                 best = best.min(took);
             }
@@ -99,7 +105,13 @@ impl Run {
 
     /// The sum of all totals after a stage.
     pub(crate) fn total_after(&mut self) -> u128 {
-        make_all(self.case, &self.layout, &mut self.blocks, &mut self.faces, 1);
+        make_all(
+            self.case,
+            &self.layout,
+            &mut self.blocks,
+            &mut self.faces,
+            1,
+        );
         sum_of(self.blocks.as_slice())
     }
 }

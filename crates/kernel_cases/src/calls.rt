@@ -96,7 +96,14 @@ pub fn fused(
         return Ok(false);
     }
     let multipliers = Multipliers::of(rates);
-    stage(layout, rates, &multipliers, &closed, cells, into.as_mut_slice());
+    stage(
+        layout,
+        rates,
+        &multipliers,
+        &closed,
+        cells,
+        into.as_mut_slice(),
+    );
     let expected = listed(alloc, size, after)?;
     Ok(into.as_slice() == expected.as_slice())
 }

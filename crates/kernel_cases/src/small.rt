@@ -17,7 +17,11 @@ pub(crate) fn are_small(list: &[u64]) -> bool
 }
 
 /// A list of so many zeros but for some places.
-pub(crate) fn listed(alloc: Global, size: usize, places: &[(usize, u64)]) -> Result<Vec<u64>, NoMemory> {
+pub(crate) fn listed(
+    alloc: Global,
+    size: usize,
+    places: &[(usize, u64)],
+) -> Result<Vec<u64>, NoMemory> {
     let mut list = Vec::from_elem(alloc, 0u64, size)?;
     for (place, number) in places {
         if *place < list.len() {

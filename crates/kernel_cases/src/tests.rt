@@ -10,7 +10,12 @@ const SHARES: [(u32, [u32; 3], &[u64], &[u64]); 5] = [
     (2, [1, 1, 1], &[7], &[2, 2, 2, 1]),
     (2, [2, 1, 1], &[5, 2], &[2, 1, 1, 1, 1, 1, 0, 0]),
     (3, [1, 1, 1], &[10], &[2, 2, 1, 1, 1, 1, 1, 1]),
-    (3, [1, 1, 2], &[3, 8], &[1, 1, 1, 0, 0, 0, 0, 0, 1, 1, 1, 1, 1, 1, 1, 1]),
+    (
+        3,
+        [1, 1, 2],
+        &[3, 8],
+        &[1, 1, 1, 0, 0, 0, 0, 0, 1, 1, 1, 1, 1, 1, 1, 1],
+    ),
 ];
 
 #[test]
@@ -25,7 +30,11 @@ fn cells_are_shared_and_added_up(rt: HostRuntime) -> Result<(), Fail> {
 
 /// Closed sides, and the cells of a row between two ghosts at each side that are not empty, before and after.
 const ROWS: [([bool; 6], &[(usize, u64)], &[(usize, u64)]); 3] = [
-    ([false; 6], &[(2, 8), (5, 3), (6, 16)], &[(2, 5), (3, 2), (5, 5)]),
+    (
+        [false; 6],
+        &[(2, 8), (5, 3), (6, 16)],
+        &[(2, 5), (3, 2), (5, 5)],
+    ),
     (
         [true, false, false, false, false, false],
         &[(2, 8), (5, 3), (6, 16)],
@@ -125,7 +134,11 @@ fn a_cube_moves_without_lists(rt: HostRuntime) -> Result<(), Fail> {
 /// Cells of a row with two ghosts at each side, and what passes its faces to the right and to the left.
 const SLOPES: [([u64; 8], [u64; 5], [u64; 5]); 3] = [
     ([0, 0, 4, 8, 2, 6, 6, 6], [0, 1, 2, 0, 1], [0, 2, 0, 1, 1]),
-    ([0, 4, 8, 12, 16, 20, 24, 28], [1, 2, 3, 4, 5], [1, 2, 3, 4, 5]),
+    (
+        [0, 4, 8, 12, 16, 20, 24, 28],
+        [1, 2, 3, 4, 5],
+        [1, 2, 3, 4, 5],
+    ),
     ([9; 8], [2; 5], [2; 5]),
 ];
 

@@ -1,4 +1,4 @@
-use Rattle.std.proofs.Common.{ℕ, ◌<◌, ◌≤◌, ◌^◌, get_or}
+use Rattle.std.proofs.Common.{ℕ, ◌<◌, ◌≤◌, get_or}
 use Rattle.kernel_bench.proofs.block.are_small.Given as goal
 
 abbrev pub invariant-loop-total : goal.invariant-loop-total

@@ -1,4 +1,4 @@
-use Rattle.std.proofs.Common.{ℕ, ◌<◌, ◌≤◌, ◌^◌, get_or}
+use Rattle.std.proofs.Common.{ℕ, ◌<◌, ◌≤◌, get_or}
 use Rattle.kernel_cases.proofs.small.are_small.Given as goal
 
 abbrev pub invariant-loop-number : goal.invariant-loop-number
