@@ -11,11 +11,16 @@ use Rattle.transport_kernel.specs.Update.{GhostsStay, face_beside, total_at}
 
 -- some layers of the cells of a block
 abbrev pub layer_extents : Layout → ℕ → ℕ → List ℕ
-layer_extents l axis depth = with_along axis depth (slice_index l.cells 0 ∷ slice_index l.cells 1 ∷ slice_index l.cells 2 ∷ [])
+layer_extents l axis depth =
+    with_along axis depth (slice_index l.cells 0 ∷ slice_index l.cells 1 ∷ slice_index l.cells 2 ∷ [])
 
 -- where layers lie that begin at a cell of the axis, which counts from the first ghost
 abbrev pub layer_box : Layout → ℕ → ℕ → BoxIn
-layer_box l axis at = record { first = 0; widths = widths l; low = with_along axis at (ghost_layers l 0 ∷ ghost_layers l 1 ∷ ghost_layers l 2 ∷ []) }
+layer_box l axis at = record {
+  first = 0;
+  widths = widths l;
+  low = with_along axis at (ghost_layers l 0 ∷ ghost_layers l 1 ∷ ghost_layers l 2 ∷ []);
+}
 
 -- a cell's new total so far, the total of the cell below, its own twice, and that of the cell above
 abbrev pub beside_numbers : Layout → ℕ → List ℕ → ℕ → List ℕ → Numbers
@@ -35,12 +40,14 @@ pub record IsInLayers (l : Layout) (axis from to : ℕ) (i : List ℕ) : Type 0 
 
 -- a rule takes the numbers of the cells of layers
 abbrev pub TakesLayers : (Numbers → Type 0) → Layout → ℕ → ℕ → ℕ → List ℕ → List ℕ → Type 0
-TakesLayers takes l axis from to cells into = (i : List ℕ) → IsInLayers l axis from to i → takes (beside_numbers l axis cells (total_at l into i) i)
+TakesLayers takes l axis from to cells into =
+    (i : List ℕ) → IsInLayers l axis from to i → takes (beside_numbers l axis cells (total_at l into i) i)
 
 -- the cells of layers have become what they are to become, and all others are as they were
 pub record HasLayers (becomes : ℕ → List ℕ → ℕ) (l : Layout) (axis from to : ℕ) (old new : List ℕ) : Type 0 where
   pub inside : (i : List ℕ) → IsInLayers l axis from to i → total_at l new i ≡ becomes (total_at l old i) i
-  pub outside : (i : List ℕ) → IsWithin l.cells i → ((slice_index i axis < from) ⊎ (to ≤ slice_index i axis)) → total_at l new i ≡ total_at l old i
+  pub outside : (i : List ℕ) → IsWithin l.cells i
+      → ((slice_index i axis < from) ⊎ (to ≤ slice_index i axis)) → total_at l new i ≡ total_at l old i
   pub ghosts : GhostsStay l old new
 
 -- a pass along one axis: from which cells, with which rates, and which total of a cell it begins with
@@ -57,7 +64,17 @@ pub record AxisPass : Type 0 where
 
 -- the pass by such rates and denominators to the right and to the left
 abbrev pub axis_pass : Layout → ℕ → List Bool → List ℕ → (ℕ → ℕ → ℕ) → ℕ → ℕ → ℕ → ℕ → AxisPass
-axis_pass l axis closed cells begins r d v e = record { layout = l; axis = axis; closed = closed; cells = cells; begins = begins; right = r; right_denominator = d; left = v; left_denominator = e }
+axis_pass l axis closed cells begins r d v e = record {
+  layout = l;
+  axis = axis;
+  closed = closed;
+  cells = cells;
+  begins = begins;
+  right = r;
+  right_denominator = d;
+  left = v;
+  left_denominator = e;
+}
 
 -- the layers of cells with no closed face begin at one, and end before another
 abbrev pub first_open : List Bool → ℕ → ℕ
@@ -91,4 +108,5 @@ after_axis x own i = begun x own i + gained x i - lost x i
 -- no cell of some layers loses more than it begins with, and none comes to 2^63
 pub record CanPassLayers (x : AxisPass) (from to : ℕ) (into : List ℕ) : Type 0 where
   pub pays : (i : List ℕ) → IsInLayers x.layout x.axis from to i → lost x i ≤ begun x (total_at x.layout into i) i
-  pub small : (i : List ℕ) → IsInLayers x.layout x.axis from to i → begun x (total_at x.layout into i) i + gained x i < 2 ^ 63
+  pub small : (i : List ℕ) → IsInLayers x.layout x.axis from to i
+      → begun x (total_at x.layout into i) i + gained x i < 2 ^ 63

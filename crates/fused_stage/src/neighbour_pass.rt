@@ -26,12 +26,18 @@ pub(crate) struct NeighbourPass<S, A, B, C, D> {
 impl<S: Start, A: Portions, B: Portions, C: Portions, D: Portions> RowRule
     for NeighbourPass<S, A, B, C, D> {
     ghost gives = { λ s n. S.begins s.start n.own n.second
-        + (portion n.first (A.rate s.from_below) (A.denominator s.from_below) + portion n.fourth (B.rate s.from_above) (B.denominator s.from_above))
-        - (portion n.second (C.rate s.to_below) (C.denominator s.to_below) + portion n.third (D.rate s.to_above) (D.denominator s.to_above)) };
+        + (portion n.first (A.rate s.from_below) (A.denominator s.from_below)
+        + portion n.fourth (B.rate s.from_above) (B.denominator s.from_above))
+        - (portion n.second (C.rate s.to_below) (C.denominator s.to_below)
+        + portion n.third (D.rate s.to_above) (D.denominator s.to_above)) };
 
-    ghost takes = { λ s n. (n.first ≤ A.greatest s.from_below) × (n.fourth ≤ B.greatest s.from_above) × (n.second ≤ C.greatest s.to_below) × (n.third ≤ D.greatest s.to_above)
-        × (portion n.second (C.rate s.to_below) (C.denominator s.to_below) + portion n.third (D.rate s.to_above) (D.denominator s.to_above) ≤ S.begins s.start n.own n.second)
-        × (S.begins s.start n.own n.second + (portion n.first (A.rate s.from_below) (A.denominator s.from_below) + portion n.fourth (B.rate s.from_above) (B.denominator s.from_above)) < 2 ^ 63) };
+    ghost takes = { λ s n. (n.first ≤ A.greatest s.from_below) × (n.fourth ≤ B.greatest s.from_above)
+        × (n.second ≤ C.greatest s.to_below) × (n.third ≤ D.greatest s.to_above)
+        × (portion n.second (C.rate s.to_below) (C.denominator s.to_below)
+        + portion n.third (D.rate s.to_above) (D.denominator s.to_above) ≤ S.begins s.start n.own n.second)
+        × (S.begins s.start n.own n.second
+        + (portion n.first (A.rate s.from_below) (A.denominator s.from_below)
+        + portion n.fourth (B.rate s.from_above) (B.denominator s.from_above)) < 2 ^ 63) };
 
     fn update_row(
         &self,

@@ -17,8 +17,8 @@ use transport_kernel::{LevelRates, Multipliers, fluxes_by, update};
 
 const OPEN: [bool; 6] = [false; 6];
 
-/// The totals of a block, and those that stages make: the fused kernel writes them anew from the first ones each time, the
-/// others change them in place.
+/// The totals of a block, and those that stages make: the fused kernel writes them anew from the first ones each time,
+/// the others change them in place.
 #[derive(Drop)]
 pub(crate) struct Block {
     cells: Vec<u64>,
@@ -145,7 +145,8 @@ fn by_fused(
     stage(layout, rates, multipliers, closed, cells, next);
 }
 
-/// A stage of a block by a kernel; nothing where its lists do not fit, or a total that is changed in place is 2^62 or more.
+/// A stage of a block by a kernel; nothing where its lists do not fit, or where a total that is changed in place is
+/// 2^62 or more.
 pub(crate) fn make_stage(
     kernel: Kernel,
     layout: &Layout,

@@ -1,8 +1,9 @@
-//! Makes a stage of sixteen blocks over and over, with ghosts that are filled before and stay. Each word chooses one thing:
-//! `fused` (a stage without face lists), `lists` (fluxes and update) or `slopes` (fluxes of the second order and update); `16x16`,
-//! `64x64` or `16x16x16` cells a block; totals below two to the `20`, `32` or `62`; rates `one` way or `both` ways. With words it
-//! prints nanoseconds a cell, the best of many rounds; with none the sum of the totals after one stage by the first two, which
-//! are the same. `bench/kernels.sh` prints them all.
+//! Makes a stage of sixteen blocks over and over, with ghosts that are filled before and stay.
+//!
+//! Each word chooses one thing: `fused` (a stage without face lists), `lists` (fluxes and update) or `slopes` (fluxes of
+//! the second order and update); `16x16`, `64x64` or `16x16x16` cells a block; totals below two to the `20`, `32` or
+//! `62`; rates `one` way or `both` ways. With words it prints nanoseconds a cell, by the fastest of many rounds; with none
+//! the sums of the totals after one stage by the first two, which are the same. `bench/kernels.sh` prints them all.
 #![tactic(auto)]
 
 mod block;
