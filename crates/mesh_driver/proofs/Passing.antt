@@ -1,5 +1,5 @@
 -- A file that is appended to piece by piece.
-use Rattle.std.proofs.Common.{◌≡◌, ℕ, List, [], ◌∷◌, ◌++◌, length, take, drop, Option, Some, None, refl, sym, ◌∙◌, ap, subst, append-nil, append_assoc}
+use Rattle.std.proofs.Common.{◌≡◌, ℕ, List, [], ◌∷◌, ◌++◌, length, take, drop, Bool, true, false, Option, Some, None, refl, sym, ◌∙◌, ap, subst, append-nil, append_assoc}
 use Rattle.std.specs.Option.{option_map, ForSome}
 use Rattle.std.proofs.lemmas.List.{take-append-drop}
 use Rattle.std.proofs.Math.Seq.{take-append_seam}
@@ -60,12 +60,27 @@ pub record Midway (all buffer : List ℕ) (rest : List (List ℕ)) (old new : Op
 pub at_start : (rest : List (List ℕ)) (w : Option (List Gained)) (buffer : List ℕ) → buffer ≡ [] → ForSome w IsOpen → Midway (joined rest) buffer rest w w
 at_start rest w buffer empty unfinished = record { gone = []; together = ap (λ (b : List ℕ). b ++ joined rest) empty; is = nothing_on w unfinished }
 
+no_way : true ≡ false → ⊥
+no_way e = cc
+
 -- one piece more is in the buffer
-pub one_piece : (all b c : List ℕ) (rest left : List (List ℕ)) (old new : Option (List Gained)) → Steps true rest left b c → Midway all b rest old new → Midway all c left old new
-one_piece all b c rest left old new (piece, rest_is, buffer_is) m = record {
+pub one_piece : (all b c : List ℕ) (rest left : List (List ℕ)) (old new : Option (List Gained)) (more : Bool) → more ≡ true → Steps more rest left b c → Midway all b rest old new → Midway all c left old new
+one_piece all b c rest left old new false holds step m = absurd (no_way (sym holds))
+one_piece all b c rest left old new true holds (piece, rest_is, buffer_is) m = record {
   gone = m.gone;
   together = ap (λ (v : List ℕ). m.gone ++ (v ++ joined left)) buffer_is
       ∙ ap (λ (v : List ℕ). m.gone ++ v) (append_assoc b piece (joined left) ∙ ap (λ (v : List (List ℕ)). b ++ joined v) (sym rest_is))
+      ∙ m.together;
+  is = m.is;
+}
+
+-- no piece was left, and the buffer is seen as a slice
+pub no_piece : (all b c d : List ℕ) (rest left : List (List ℕ)) (old new : Option (List Gained)) (more : Bool) → more ≡ false → Steps more rest left b c → d ≡ c → Midway all b rest old new → Midway all d left old new
+no_piece all b c d rest left old new true fails step same m = absurd (no_way fails)
+no_piece all b c d rest left old new false fails (none, none_left, buffer_is) same m = record {
+  gone = m.gone;
+  together = ap (λ (v : List ℕ). m.gone ++ (v ++ joined left)) (same ∙ buffer_is)
+      ∙ ap (λ (v : List (List ℕ)). m.gone ++ (b ++ joined v)) (none_left ∙ sym none)
       ∙ m.together;
   is = m.is;
 }
@@ -94,10 +109,3 @@ stops_appending all b rest old between new unfinished m stop =
     ∙ ap (λ (v : List ℕ). m.gone ++ v) (sym (append_assoc part left (joined rest)) ∙ ap (λ (v : List ℕ). v ++ joined rest) (take-append-drop stop.count b))
     ∙ m.together)
     (stop.is ∙ ap (option_map (appended part)) m.is ∙ appended_twice m.gone part old unfinished)
-
--- all pieces were appended
-pub all_passed : (all b c : List ℕ) (rest left : List (List ℕ)) (old between new : Option (List Gained)) → ForSome old IsOpen → Midway all b rest old between → Steps false rest left b c → new ≡ option_map (appended c) between → new ≡ option_map (appended all) old
-all_passed all b c rest left old between new unfinished m (none, _, buffer_is) is =
-    is ∙ ap (option_map (appended c)) m.is ∙ appended_twice m.gone c old unfinished
-    ∙ ap (λ (v : List ℕ). option_map (appended v) old)
-    (ap (λ (v : List ℕ). m.gone ++ v) (buffer_is ∙ sym (append-nil b) ∙ ap (λ (v : List (List ℕ)). b ++ joined v) (sym none)) ∙ m.together)
