@@ -1,14 +1,14 @@
 mod Bounds
-mod Boxes
-mod CarriedMasks
-mod Counters
+pub mod Boxes
+pub mod CarriedMasks
+pub mod Counters
 mod Families
-mod Halves
-mod LeafLists
+pub mod Halves
+pub mod LeafLists
 mod Near
-mod Numbers
-mod Openings
-mod Pushed
-mod Spreads
+pub mod Numbers
+pub mod Openings
+pub mod Pushed
+pub mod Spreads
 mod StartBoxes
-mod Taken
+pub mod Taken

@@ -10,7 +10,7 @@ ghost use Rattle.dense_mesh.specs.Masks.{AreSlots};
 ghost use Rattle.dense_remesh.specs.Lists.{AreCarried, AreCarriedCounters};
 ghost use Rattle.dense_remesh.specs.Slots.{carried_slot as carried_slot_of, counter_at as counter_of, keeps as keeps_of, slot_at as slot_of};
 
-use crate::origins::{Origin, origins, parts};
+use crate::origins::{Origin, child_count, leaf_origins};
 use block_tree::Tree;
 use dense_mesh::{FieldSlots, Slot};
 use mesh_num::NoMemory;
@@ -47,7 +47,7 @@ fn is_kept_below(dims: u32, slots: &[Slot], numbers: &[Option<u32>; 8]) -> bool
     ensures { result ≡ list_any (λ j. keeps_of slots.now (slice_index_or numbers.now j None))
         (range_with_len 0 (parts_of dims)) }
 {
-    for j in 0..parts(dims) {
+    for j in 0..child_count(dims) {
         if keeps(slots, numbers[j as usize]) {
             return true;
         }
@@ -109,7 +109,7 @@ pub fn carried_slots(
         (length (leaves next.now)) new.items) }
     ensures mask { IfOk result (λ new. AreCarried (settings_of problem.now) old.now next.now slots.now new.items) }
 {
-    let origins = origins(alloc, old, next)?;
+    let origins = leaf_origins(alloc, old, next)?;
     let dims = old.shape().dims;
     let mut new = Vec::new(alloc);
     for f in 0..slots.len() {

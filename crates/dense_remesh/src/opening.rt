@@ -54,7 +54,7 @@ fn boxes_in(
 }
 
 /// The totals of a block at the start. Its cells are gone over where a box meets it.
-fn opening_block(
+pub fn opening_block(
     alloc: Global,
     layout: &Layout,
     boxes: &[StartBox],

@@ -4,7 +4,7 @@ ghost use Rattle.std.specs.Prelude.{◌≡◌, ◌≤◌, ◌<◌, ◌/◌, ◌%
 ghost use Rattle.morton_order.specs.Space.{child_number, factor, parts as parts_of};
 ghost use Rattle.dense_remesh.specs.StartBoxes.{amounts, cell_of, cell_of_block, coarser as coarser_of, first_of_block, last_of_block, root_of as root_cell_of, root_total as root_total_of, spread_over};
 
-use crate::origins::parts;
+use crate::origins::child_count;
 use crate::start_boxes::root_total;
 use block_layout::Layout;
 use mesh_num::share;
@@ -73,7 +73,7 @@ fn coarser(dims: u32, cell: &[u64; 3]) -> [u64; 3]
 }
 
 /// Which child of its parent a cell is.
-pub(crate) fn number_in_parent(dims: u32, cell: &[u64; 3]) -> u32
+pub fn number_in_parent(dims: u32, cell: &[u64; 3]) -> u32
     requires least { 1 ≤ dims }
     requires most { dims ≤ 3 }
     ensures value { result ≡ child_number dims (cell_of 0 cell.now) }
@@ -103,5 +103,5 @@ pub(crate) fn share_of_root(boxes: &[StartBox], dims: u32, level: u32, cell: &[u
         return root_total(boxes, cell);
     }
     let whole = share_of_root(boxes, dims, level - 1, &coarser(dims, cell));
-    share(whole, parts(dims), number_in_parent(dims, cell))
+    share(whole, child_count(dims), number_in_parent(dims, cell))
 }

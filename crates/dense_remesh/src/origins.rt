@@ -12,7 +12,7 @@ use std::alloc::Global;
 
 /// The old leaves in whose place a leaf of the next tree stands, by their numbers.
 #[derive(Clone, Copy)]
-pub(crate) enum Origin {
+pub enum Origin {
     /// It was a leaf.
     Leaf(u32),
     /// Its parent was a leaf.
@@ -22,7 +22,7 @@ pub(crate) enum Origin {
 }
 
 /// How many children a block has.
-pub(crate) fn parts(dims: u32) -> u32
+pub fn child_count(dims: u32) -> u32
     requires least { 1 ≤ dims }
     requires most { dims ≤ 3 }
     ensures value { result ≡ parts_of dims }
@@ -46,7 +46,7 @@ fn child_leaves(tree: &Tree, at: &Loc) -> [Option<u32>; 8]
     if at.level == 10 {
         return numbers;
     }
-    for j in 0..parts(dims) {
+    for j in 0..child_count(dims) {
         numbers[j as usize] = tree.find(&child(at, j, dims));
     }
     numbers
@@ -79,7 +79,7 @@ fn origin_of(old: &Tree, at: &Loc) -> Origin
 }
 
 /// The old leaves in whose place each leaf of the next tree stands.
-pub(crate) fn origins(alloc: Global, old: &Tree, next: &Tree) -> Result<Vec<Origin>, NoMemory>
+pub fn leaf_origins(alloc: Global, old: &Tree, next: &Tree) -> Result<Vec<Origin>, NoMemory>
     requires { next.now.shape ≡ old.now.shape }
     ensures origins { IfOk result (λ origins. AreOrigins old.now (leaves next.now) origins.items) }
     ensures old { IsBlockTree old.now }

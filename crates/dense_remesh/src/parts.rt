@@ -11,7 +11,7 @@ ghost use Rattle.restrict_prolong.specs.Refined.{factors as factors_of};
 ghost use Rattle.restrict_prolong.specs.Boxes.{HasSums, SumsBelow};
 ghost use Rattle.dense_remesh.specs.Parts.{HasChildSums, HasParentShares, IsChildList, half_cells as half_cells_of, list_of, part_box as part_box_of};
 
-use crate::origins::parts;
+use crate::origins::child_count;
 use block_layout::Layout;
 use block_regions::whole;
 use cell_boxes::BoxIn;
@@ -78,7 +78,7 @@ fn part_box(layout: &Layout, child: u32) -> BoxIn
 }
 
 /// Writes the cells of a child of a block by their shares of the block's.
-pub(crate) fn write_shares(layout: &Layout, child: u32, coarse: &[u64], into: &mut [u64])
+pub fn write_shares(layout: &Layout, child: u32, coarse: &[u64], into: &mut [u64])
     requires child { child < parts_of layout.now.dims }
     requires coarse { length coarse.now ≡ interior_len layout.now }
     requires into { length into.old ≡ interior_len layout.now }
@@ -91,7 +91,7 @@ pub(crate) fn write_shares(layout: &Layout, child: u32, coarse: &[u64], into: &m
 }
 
 /// Writes the cells of a block that a child covers by the sums over the child's cells.
-fn write_child_sums(layout: &Layout, child: u32, fine: &[u64], into: &mut [u64])
+pub fn write_child_sums(layout: &Layout, child: u32, fine: &[u64], into: &mut [u64])
     requires child { child < parts_of layout.now.dims }
     requires fine { length fine.now ≡ interior_len layout.now }
     requires small { SumsBelow (2 ^ 62) (factors_of layout.now.dims) (half_cells_of layout.now) fine.now
@@ -131,7 +131,7 @@ pub(crate) fn write_sums(
     requires into { length into.old ≡ interior_len layout.now }
     ensures { HasChildSums layout.now field.now numbers.now (parts_of layout.now.dims) into.new }
 {
-    for j in 0..parts(layout.dims) {
+    for j in 0..child_count(layout.dims) {
         let fine = child_list(field, &numbers[j as usize]);
         write_child_sums(layout, j, fine, into);
     }

@@ -14,7 +14,7 @@ ghost use Rattle.dense_remesh.specs.declared.origins.Origin.{Origin};
 ghost use Rattle.dense_remesh.specs.Parts.{AreTaken, CanTake, HasChildSums, HasParentShares, IsChildList, IsTaken};
 
 use crate::opening_cells::number_in_parent;
-use crate::origins::{Origin, origins};
+use crate::origins::{Origin, leaf_origins};
 use crate::parts::{write_shares, write_sums};
 use block_layout::Layout;
 use block_tree::Tree;
@@ -116,7 +116,7 @@ pub fn remap(
     ensures lists { IfOk result (λ new. HaveLeafLists (field_count (settings_of problem.now))
         (leaves next.now) new.items) }
 {
-    let origins = origins(alloc, old, next)?;
+    let origins = leaf_origins(alloc, old, next)?;
     let mut new = Vec::new(alloc);
     for f in 0..lists.len() {
         let field = lists[f].as_slice();

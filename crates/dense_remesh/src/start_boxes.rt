@@ -34,7 +34,7 @@ fn holds(area: &StartBox, cell: &[u64; 3]) -> bool
 }
 
 /// The boxes of a field.
-pub(crate) fn boxes_of(
+pub fn boxes_of(
     alloc: Global,
     boxes: &[StartBox],
     field: u32,

@@ -17,8 +17,8 @@ pub field_slots-requires : goal.field_slots-requires
 field_slots-requires c =
     let dims = ap (λ (s : Shape). s.dims) c.shape.ensures in
     record {
-      least = omega (arith, dims, c.origins.ensures.old.shape.least);
-      most = omega (arith, dims, c.origins.ensures.old.shape.most);
+      least = omega (arith, dims, c.leaf_origins.ensures.old.shape.least);
+      most = omega (arith, dims, c.leaf_origins.ensures.old.shape.most);
     }
 
 pub loop-f-preserved : goal.loop-f-preserved
@@ -48,5 +48,5 @@ returns c =
     c.loop-f.invariant.each f [] (omega arith) ∙ ap (λ (s : Shape). map (carried_slot (parts s.dims) (slice_index_or c.args.slots.now f [])) origins) c.shape.ensures in
     record {
       slots = carried_slots_are t c.args.slots.now c.loop-f.new.items (field_count p) at origins c.in_ok-origins.ensures.origins count each;
-      mask = λ m shape same. carried_is p t m c.args.slots.now c.loop-f.new.items (record { tree = c.origins.ensures.old; shape = shape; leaves_are = same; slots_are = c.requires.slots }) at origins c.in_ok-origins.ensures.origins count each;
+      mask = λ m shape same. carried_is p t m c.args.slots.now c.loop-f.new.items (record { tree = c.leaf_origins.ensures.old; shape = shape; leaves_are = same; slots_are = c.requires.slots }) at origins c.in_ok-origins.ensures.origins count each;
     }

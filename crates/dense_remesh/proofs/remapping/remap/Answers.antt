@@ -21,7 +21,7 @@ remapped_field-requires c =
     let origins : c.as_slice.result.now ≡ c.in_ok-origins.origins.items = c.as_slice.ensures.value in
     let field : c.as_slice-field.result.now ≡ slice_index_or c.args.lists.now c.loop-f.f [] = c.as_slice-field.ensures ∙ get_or_read c.args.lists.now c.loop-f.f _ small c.index-lists-f.is [] in
     let near = subst (λ (s : Shape). IsNear s (is_inner_of c.args.old.now) (is_inner_of c.args.next.now)) (sym c.requires.mesh.mesh.shape) c.requires.near in
-    let takes = field_takes p c.args.old.now c.args.next.now c.args.layout.now c.args.lists.now (record { mesh = c.requires.mesh; near = near }) c.origins.ensures.next (c.requires.shape ∙ sym c.requires.mesh.mesh.shape) c.loop-f.f
+    let takes = field_takes p c.args.old.now c.args.next.now c.args.layout.now c.args.lists.now (record { mesh = c.requires.mesh; near = near }) c.leaf_origins.ensures.next (c.requires.shape ∙ sym c.requires.mesh.mesh.shape) c.loop-f.f
     (omega (arith, c.requires.mesh.fields)) c.in_ok-origins.origins.items c.in_ok-origins.ensures.origins in
     record {
       count = ap (λ (v : List Origin). length v) origins ∙ c.in_ok-origins.ensures.origins.count;
@@ -52,7 +52,7 @@ returns c =
     let shape = c.requires.shape ∙ sym c.requires.mesh.mesh.shape in
     let near = subst (λ (s : Shape). IsNear s (is_inner_of c.args.old.now) (is_inner_of c.args.next.now)) (sym c.requires.mesh.mesh.shape) c.requires.near in
     let all : c.loop-f.f ≡ field_count p = omega (arith, c.requires.mesh.fields) in
-    let each = λ (f : ℕ) (some : f < field_count p). field_taken p c.args.old.now c.args.next.now c.args.layout.now c.args.lists.now (record { mesh = c.requires.mesh; near = near }) c.origins.ensures.next shape f some
+    let each = λ (f : ℕ) (some : f < field_count p). field_taken p c.args.old.now c.args.next.now c.args.layout.now c.args.lists.now (record { mesh = c.requires.mesh; near = near }) c.leaf_origins.ensures.next shape f some
     c.in_ok-origins.origins.items (slice_index_or c.loop-f.new.items f []) c.in_ok-origins.ensures.origins (c.loop-f.invariant.each f [] (omega arith)) in
     let count = c.loop-f.invariant.count ∙ all in
     record {

@@ -4,7 +4,7 @@ use Rattle.morton_order.specs.declared.space.Loc.{Loc}
 use Rattle.block_tree.specs.Blocks.{leaves}
 use Rattle.dense_remesh.specs.declared.origins.Origin.{Origin}
 use Rattle.dense_remesh.specs.Origins.{IsOrigin}
-use Rattle.dense_remesh.proofs.origins.origins.Given as goal
+use Rattle.dense_remesh.proofs.origins.leaf_origins.Given as goal
 
 abbrev pub invariant-loop-leaf : goal.invariant-loop-leaf
 invariant-loop-leaf l = record {

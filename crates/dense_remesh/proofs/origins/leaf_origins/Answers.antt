@@ -8,7 +8,7 @@ use Rattle.block_tree.specs.Blocks.{leaves}
 use Rattle.dense_remesh.specs.Origins.{IsOrigin}
 use Rattle.dense_remesh.proofs.Numbers.{leaf_inside}
 use Rattle.dense_remesh.proofs.Pushed.{count_pushed, each_pushed}
-use Rattle.dense_remesh.proofs.origins.origins.Goals as goal
+use Rattle.dense_remesh.proofs.origins.leaf_origins.Goals as goal
 
 pub origin_of-requires : goal.origin_of-requires
 origin_of-requires c = subst (λ (s : Shape). IsIn s c.leaf_at.result) c.requires (leaf_inside c.args.next.now c.len.ensures.kept c.loop-leaf.leaf c.leaf_at.result c.leaf_at.ensures)
