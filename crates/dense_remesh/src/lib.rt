@@ -15,9 +15,9 @@ mod remapping;
 mod start_boxes;
 
 pub use carried::{carried_counters, carried_slots};
-pub use opening::{opening_block, opening_lists};
+pub use opening::{boxes_in, opening_block, opening_lists};
 pub use opening_cells::number_in_parent;
 pub use origins::{Origin, child_count, leaf_origins};
-pub use parts::{write_child_sums, write_shares};
-pub use remapping::remap;
+pub use parts::write_child_sums;
+pub use remapping::{child_shares, remap};
 pub use start_boxes::boxes_of;

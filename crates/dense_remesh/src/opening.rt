@@ -39,7 +39,7 @@ fn shares(
 }
 
 /// The boxes that meet a block.
-fn boxes_in(
+pub fn boxes_in(
     alloc: Global,
     layout: &Layout,
     boxes: &[StartBox],

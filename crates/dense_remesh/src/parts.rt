@@ -78,7 +78,7 @@ fn part_box(layout: &Layout, child: u32) -> BoxIn
 }
 
 /// Writes the cells of a child of a block by their shares of the block's.
-pub fn write_shares(layout: &Layout, child: u32, coarse: &[u64], into: &mut [u64])
+pub(crate) fn write_shares(layout: &Layout, child: u32, coarse: &[u64], into: &mut [u64])
     requires child { child < parts_of layout.now.dims }
     requires coarse { length coarse.now ≡ interior_len layout.now }
     requires into { length into.old ≡ interior_len layout.now }

@@ -26,7 +26,7 @@ use problem_set::Problem;
 use std::alloc::Global;
 
 /// The totals of a leaf whose parent was one.
-fn shares(alloc: Global, layout: &Layout, at: &Loc, coarse: &[u64]) -> Result<Cells, NoMemory>
+pub fn child_shares(alloc: Global, layout: &Layout, at: &Loc, coarse: &[u64]) -> Result<Cells, NoMemory>
     requires { length coarse.now ≡ interior_len layout.now }
     ensures size { IfOk result (λ list. length list ≡ interior_len layout.now) }
     ensures shares { IfOk result (λ list. HasParentShares layout.now coarse.now
@@ -69,7 +69,7 @@ fn remapped_leaf(
 {
     match origin {
         Origin::Leaf(leaf) => Cells::from_slice(alloc, field[*leaf as usize].as_slice()),
-        Origin::Parent(leaf) => shares(alloc, layout, at, field[*leaf as usize].as_slice()),
+        Origin::Parent(leaf) => child_shares(alloc, layout, at, field[*leaf as usize].as_slice()),
         Origin::Children(numbers) => sums(alloc, layout, numbers, field),
     }
 }

@@ -3,7 +3,7 @@ use Rattle.morton_order.specs.Space.{child_number}
 use Rattle.dense_remesh.specs.Parts.{HasParentShares}
 use Rattle.dense_remesh.proofs.Halves.{number_by}
 use Rattle.dense_remesh.proofs.Pushed.{written_whole}
-use Rattle.dense_remesh.proofs.remapping.shares.Goals as goal
+use Rattle.dense_remesh.proofs.remapping.child_shares.Goals as goal
 
 pub returns-clause-shares : goal.returns-clause-shares
 returns-clause-shares c =
