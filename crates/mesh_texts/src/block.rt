@@ -72,7 +72,7 @@ fn totals_on(list: &FieldTotals, leaf: usize) -> &[u64]
 }
 
 /// Whether no cell has anything.
-fn is_zero(totals: &[u64]) -> bool
+pub fn is_zero(totals: &[u64]) -> bool
     ensures { result ≡ is_zero totals.now }
 {
     totals.iter().all(|total| *total == 0)
@@ -91,8 +91,8 @@ fn count_zeros(lists: &[FieldTotals], leaf: usize) -> usize
     count
 }
 
-/// Appends the first line of a leaf.
-fn push_place(leaf: u32, at: &Loc, zeros: u64, into: &mut Vec<u8>) -> Result<(), NoMemory>
+/// Appends the first line of a leaf: its number, its place, and how many fields are all zero there.
+pub fn push_place(leaf: u32, at: &Loc, zeros: u64, into: &mut Vec<u8>) -> Result<(), NoMemory>
     ensures { OnOk result (into.new.items ≡ into.old.items ++ place_line leaf at.now zeros) }
 {
     push_named(into, b"block ", u64::from(leaf))?;
@@ -121,8 +121,8 @@ fn push_fields(
     Ok(())
 }
 
-/// Appends the lines of a field, none where it is all zero.
-fn push_field(
+/// Appends the lines of a field with these totals on a leaf, x1 fastest; none where they are all zero.
+pub fn push_field(
     into: &mut Vec<u8>,
     label: &str,
     layout: &Layout,

@@ -5,7 +5,7 @@ ghost use Rattle.problem_set.specs.SettingsOf.{settings_of};
 ghost use Rattle.package_fields.specs.declared.flow.Flow.{Flow};
 ghost use Rattle.mesh_rules.specs.Fields.{field_at, field_count};
 ghost use Rattle.mesh_rules.specs.Run.{Reached};
-ghost use Rattle.mesh_rules.specs.Texts.{drop_text, history_heading, history_lines, history_of, shows_drops};
+ghost use Rattle.mesh_rules.specs.Texts.{drop_text, history_heading, history_line, history_lines, history_of, shows_drops};
 ghost use Rattle.mesh_texts.specs.History.{entries_of, entry_line, entry_lines};
 ghost use Rattle.mesh_texts.specs.Pieces.{amount_words, flow_words, label_words};
 
@@ -74,10 +74,27 @@ pub fn push_history_line(
     ensures { OnOk result (into.new.items ≡ into.old.items
         ++ entry_line (settings_of problem.now) cycle field entry.now) }
 {
+    let blocks = u64::from(entry.blocks);
+    push_field_row(problem, cycle, field, entry, blocks, into)
+}
+
+/// Appends that line with another number of blocks.
+pub fn push_field_row(
+    problem: &Problem,
+    cycle: u32,
+    field: u32,
+    entry: &HistoryEntry,
+    blocks: u64,
+    into: &mut Vec<u8>,
+) -> Result<(), NoMemory>
+    requires { field < field_count (settings_of problem.now) }
+    ensures { OnOk result (into.new.items ≡ into.old.items ++ history_line (settings_of problem.now) cycle (field_at (settings_of problem.now) field).label
+        entry.now.total entry.now.flow entry.now.dropped blocks) }
+{
     let label = problem.fields.fields()[field as usize].label.as_str();
     push_label(cycle, label, into)?;
     push_amounts(problem, entry, into)?;
-    push_named_line(into, b" blocks ", u64::from(entry.blocks))
+    push_named_line(into, b" blocks ", blocks)
 }
 
 /// Appends a cycle and a label.
