@@ -6,9 +6,10 @@ use Rattle.std.proofs.lemmas.List.Sums.{count_by-le-length, get_or-le-sum_by}
 use Rattle.slab.specs.Slab.{Slab, get, slab_len, with_value}
 use Rattle.sparse_pool.specs.declared.place.Place.{Place}
 use Rattle.cell_block.specs.State.{Entry, count_in, entry_in, with_entry}
-use Rattle.cell_block.specs.Partitions.{IsOnShelves, IsPlace, OnShelves, key_on, keyed_in, keyed_on, lists_of, nothing_on}
+use Rattle.alloc_epochs.specs.declared.finding.KeyedField.{KeyedField}
+use Rattle.cell_block.specs.Partitions.{IsNextOn, IsNoneOnFrom, IsOnShelves, IsPlace, OnShelves, key_on, keyed_in, keyed_on, lists_of, nothing_on}
 use Rattle.alloc_epochs.specs.Shelf.{place_on}
-use Rattle.cell_block.specs.Store.{AreKept, AreTied, IsPlaced, Placed, entry_of, entry_under, keys_with, listed_in, listed_on_block, nothing_placed, placed, room_in, with_come}
+use Rattle.cell_block.specs.Store.{AreKept, AreTied, IsNextKept, IsNoneKept, IsPlaced, Placed, entry_of, entry_under, keys_with, listed_in, listed_on_block, nothing_placed, placed, room_in, with_come}
 use Rattle.cell_block.specs.declared.kept.Kept.{Kept}
 use Rattle.cell_block.proofs.Tables.{count_same}
 use Rattle.cell_block.proofs.PartitionLists.{filter_same, flat_same}
@@ -132,3 +133,16 @@ pub roomier : (slab new : Slab Kept) → new ≡ record slab { capacity = new.ca
 roomier slab new rest more =
     let same : slab_len new ≡ slab_len slab = ap (λ (x : Slab Kept). slab_len x) rest in
     omega (arith, same, more)
+
+-- the next field of which something is kept, and that there is none
+pub next_seen : (s : OnShelves) (slab : Slab Kept) (block from : ℕ) (next : KeyedField) (v : Placed) → placed s slab ≡ v → AreTied s slab → IsNextOn s block from next → IsNextKept v block from next.field
+next_seen s slab block from next v is tied found = record {
+  after = found.after;
+  within = subst (λ (w : Placed). next.field < w.fields) is found.within;
+  there = seen_some s slab (place_on block next.field) v is tied ∙ ap (λ (o : Option ℕ). is_some o) found.has_key;
+  first = λ f low high. seen_some s slab (place_on block f) v is tied ∙ ap (λ (o : Option ℕ). is_some o) (found.first f low high);
+}
+
+pub none_seen : (s : OnShelves) (slab : Slab Kept) (block from : ℕ) (v : Placed) → placed s slab ≡ v → AreTied s slab → IsNoneOnFrom s block from → IsNoneKept v block from
+none_seen s slab block from v is tied none f low high =
+    seen_some s slab (place_on block f) v is tied ∙ ap (λ (o : Option ℕ). is_some o) (none f low (subst (λ (w : Placed). f < w.fields) (sym is) high))

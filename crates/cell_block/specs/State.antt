@@ -1,5 +1,5 @@
 -- What contracts see of a mesh state: what is kept of each field on each block, and which parts of that may be lent.
-use Rattle.std.specs.Prelude.{◌≡◌, ℕ, ◌+◌, ◌*◌, ◌-◌, ◌/◌, ◌<◌, ◌≤◌, Bool, ◌&&◌, is_some, is_none, Option, Some, None, List, [], length, map, filter, flat_map, min, unwrap_or, count_by, slice_index, slice_index_or, slice_set}
+use Rattle.std.specs.Prelude.{◌≡◌, ℕ, ◌+◌, ◌*◌, ◌-◌, ◌/◌, ◌<◌, ◌≤◌, Bool, true, false, ◌&&◌, is_some, is_none, Option, Some, None, List, [], length, map, filter, flat_map, min, unwrap_or, count_by, slice_index, slice_index_or, slice_set}
 use Rattle.std.specs.List.{range_with_len}
 use Rattle.std.specs.Option.{option_map, option_and_then}
 use Rattle.block_tree.specs.Blocks.{IsBlockTree, TreeOfBlocks, leaves}
@@ -76,6 +76,17 @@ is_lent s at = is_allocated s at && is_none (buffer_at s at)
 -- at how many checks in a row it was idle; 0 where it is not allocated
 abbrev pub idle_at : Stored → Place → ℕ
 idle_at s at = unwrap_or (option_map (λ (e : Entry). e.idle) (entry_at s at)) 0
+
+-- the first field from one on that is allocated on a block
+pub record IsNextField (s : Stored) (block from next : ℕ) : Type 0 where
+  pub after : from ≤ next
+  pub within : next < s.fields
+  pub there : is_allocated s (place_on block next) ≡ true
+  pub first : (f : ℕ) → from ≤ f → f < next → is_allocated s (place_on block f) ≡ false
+
+-- and that none is
+abbrev pub IsNoneFrom : Stored → ℕ → ℕ → Type 0
+IsNoneFrom s block from = (f : ℕ) → from ≤ f → f < s.fields → is_allocated s (place_on block f) ≡ false
 
 -- on how many blocks a field is allocated
 abbrev pub count_in : List (List (Option Entry)) → ℕ → ℕ

@@ -1,5 +1,5 @@
 -- For the code: the shelves and the slab of buffers, seen as what is kept at each place.
-use Rattle.std.specs.Prelude.{◌*◌, ◌^◌, Bool, filter, flat_map, ◌≡◌, ◌≢◌, ◌&&◌, cond, nat_eq, nat_lt, ℕ, ◌+◌, ◌-◌, ◌/◌, ◌<◌, ◌≤◌, Option, None, Some, is_some, List, [], length, map, min, count_by, slice_index, slice_index_or, slice_set, IsSomeAnd, replicate}
+use Rattle.std.specs.Prelude.{true, false, ◌*◌, ◌^◌, Bool, filter, flat_map, ◌≡◌, ◌≢◌, ◌&&◌, cond, nat_eq, nat_lt, ℕ, ◌+◌, ◌-◌, ◌/◌, ◌<◌, ◌≤◌, Option, None, Some, is_some, List, [], length, map, min, count_by, slice_index, slice_index_or, slice_set, IsSomeAnd, replicate}
 use Rattle.std.specs.Option.{ForSome, option_map, option_and_then}
 use Rattle.std.specs.List.{range_with_len}
 use Rattle.alloc_epochs.specs.Shelf.{place_on}
@@ -47,6 +47,20 @@ placed s slab = record {
   epochs = s.epochs;
   spares = map (min (room_in slab)) s.spares;
 }
+
+-- whether something is kept at a place
+abbrev pub is_kept_at : Placed → Place → Bool
+is_kept_at s at = is_some (entry_in s.places at)
+
+-- the first field of a block from one on of which something is kept, and that there is none
+pub record IsNextKept (s : Placed) (block from next : ℕ) : Type 0 where
+  pub after : from ≤ next
+  pub within : next < s.fields
+  pub there : is_kept_at s (place_on block next) ≡ true
+  pub first : (f : ℕ) → from ≤ f → f < next → is_kept_at s (place_on block f) ≡ false
+
+abbrev pub IsNoneKept : Placed → ℕ → ℕ → Type 0
+IsNoneKept s block from = (f : ℕ) → from ≤ f → f < s.fields → is_kept_at s (place_on block f) ≡ false
 
 -- on how many blocks a field has a key
 abbrev pub keys_with : List (List (Option ℕ)) → ℕ → ℕ

@@ -1,6 +1,6 @@
 //! The state of a mesh.
 
-ghost use Rattle.std.specs.Prelude.{◌≡◌, ◌+◌, ◌-◌, ◌<◌, ◌≤◌, ◌^◌, ℕ, true, false, None, Some, IfOk, IsSome, OnOk, length, option_copied, replicate, slice_index, slice_set};
+ghost use Rattle.std.specs.Prelude.{◌≡◌, ◌+◌, ◌-◌, ◌<◌, ◌≤◌, ◌^◌, ℕ, true, false, None, Some, IfNone, IfOk, IfSome, IsSome, OnOk, length, option_copied, replicate, slice_index, slice_set};
 ghost use Rattle.std.specs.Arc.{arc_value};
 ghost use Rattle.block_tree.specs.Blocks.{leaves};
 ghost use Rattle.block_layout.specs.declared.layout.Layout.{Layout};
@@ -8,7 +8,7 @@ ghost use Rattle.block_layout.specs.Indices.{count_of};
 ghost use Rattle.field_bufs.specs.declared.buf.FieldBuf.{FieldBuf};
 ghost use Rattle.alloc_epochs.specs.Shelf.{place_on, takes};
 ghost use Rattle.problem_set.specs.SettingsOf.{settings_of};
-ghost use Rattle.cell_block.specs.State.{Fits, HasLayout, IsIn, IsStored, buffer_at, count_on, entry_at, epoch_at, idle_at, is_allocated, is_lent, leaf_count, list_count, list_of, listed, place_of, spare_at, with_buffer, with_change, with_idle, with_stamps};
+ghost use Rattle.cell_block.specs.State.{Fits, HasLayout, IsIn, IsNextField, IsNoneFrom, IsStored, buffer_at, count_on, entry_at, epoch_at, idle_at, is_allocated, is_lent, leaf_count, list_count, list_of, listed, place_of, spare_at, with_buffer, with_change, with_idle, with_stamps};
 ghost use Rattle.cell_block.specs.Rules.{IsLayoutFor, IsWhole, interior_at, opening_stored};
 
 use crate::interior::write_interior;
@@ -119,6 +119,15 @@ impl MeshState {
             Some(kept) => kept.buf.is_none(),
             None => false,
         }
+    }
+
+    /// The first field from one on that is allocated on a block, lent or not.
+    pub fn next_field(&self, block: u32, from: u32) -> Option<u32>
+        requires { block < leaf_count self.now }
+        ensures found { IfSome result (IsNextField self.now block from) }
+        ensures none { IfNone result (IsNoneFrom self.now block from) }
+    {
+        self.store.next_field(block, from)
     }
 
     /// On how many blocks a field is allocated. The count is kept, not taken.

@@ -1,12 +1,12 @@
 //! What is kept at each place.
 
-ghost use Rattle.std.specs.Prelude.{◌≡◌, ◌+◌, ◌-◌, ◌/◌, ◌<◌, ◌≤◌, ◌^◌, ℕ, None, Some, IfOk, IsSome, OnOk, is_some, length, option_copied, replicate, slice_index};
+ghost use Rattle.std.specs.Prelude.{◌≡◌, ◌+◌, ◌-◌, ◌/◌, ◌<◌, ◌≤◌, ◌^◌, ℕ, None, Some, IfNone, IfOk, IfSome, IsSome, OnOk, is_some, length, option_copied, replicate, slice_index};
 ghost use Rattle.std.specs.Option.{option_map};
 ghost use Rattle.alloc_epochs.specs.Shelf.{place_on, takes};
 ghost use Rattle.field_bufs.specs.declared.buf.FieldBuf.{FieldBuf};
 ghost use Rattle.cell_block.specs.State.{buffer_in, buffer_set, count_in, entry_in, idle_set, stamps_raised};
 ghost use Rattle.cell_block.specs.Partitions.{lists_of};
-ghost use Rattle.cell_block.specs.Store.{IsPlaced, entry_of, listed_in, nothing_placed, with_come};
+ghost use Rattle.cell_block.specs.Store.{IsNextKept, IsNoneKept, IsPlaced, entry_of, listed_in, nothing_placed, with_come};
 
 use crate::kept::{Kept, lend, put, set_idle};
 use crate::shelves::Shelves;
@@ -78,6 +78,18 @@ impl Store {
     {
         match self.shelves.key(at) {
             Some(key) => self.buffers.get(key),
+            None => None,
+        }
+    }
+
+    /// The first field from one on that is allocated on a block.
+    pub fn next_field(&self, block: u32, from: u32) -> Option<u32>
+        requires { block < self.now.leaves }
+        ensures found { IfSome result (IsNextKept self.now block from) }
+        ensures none { IfNone result (IsNoneKept self.now block from) }
+    {
+        match self.shelves.next_field(block, from) {
+            Some(next) => Some(next.field),
             None => None,
         }
     }
