@@ -11,7 +11,7 @@ program=$top/crates/parthenon_whole/out/parthenon_whole
 
 measure() {
     local what=$1 folder=$2 start=$EPOCHREALTIME
-    "$program" -i "$top/crates/parthenon_whole/data/several_fields.in" -d "$folder/mesh" "parthenon/time/nlim=$cycles" whole/dump_every=1 >/dev/null
+    "$program" -i "$top/crates/example_runs/data/several_fields.in" -d "$folder/mesh" "parthenon/time/nlim=$cycles" whole/dump_every=1 >/dev/null
     awk -v what="$what" -v start="$start" -v end="$EPOCHREALTIME" -v files="$((cycles + 1))" 'BEGIN {
         printf "%s: %.3f s, %.0f microseconds a dump\n", what, end - start, (end - start) / files * 1000000
     }'
