@@ -9,10 +9,9 @@ use std::process::ExitCode;
 use std::rt::Files;
 
 /// The names of the decks, and the numbers of their last cycles.
-const EXAMPLES: [(&str, u32); 12] = [
+const EXAMPLES: [(&str, u32); 11] = [
     ("periodic_faces", 2),
     ("outflow_faces", 2),
-    ("reflecting_faces", 2),
     ("inflow_face", 2),
     ("second_order", 1),
     ("three_axes", 1),
