@@ -13,6 +13,7 @@
 //! | `Pairs` | what passes faces, flux sums and corrections, updates, and what passes faces of the domain |
 //! | `Cells` | reactions, cell by cell, and the wish of a block |
 //! | `Kernels` | all of them together (`kernels_of`) |
+//! | `Laws` | which meshes are meshes of a cycle (`IsCycleMesh`) |
 #![tactic(auto)]
 
 mod laws;

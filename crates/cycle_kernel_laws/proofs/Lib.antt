@@ -1,0 +1,10 @@
+pub mod Due
+pub mod Once
+pub mod Apart
+pub mod Given
+pub mod Outside
+pub mod Sees
+pub mod OwnPairs
+pub mod FineSides
+pub mod SumsOfNone
+pub mod Kernels
