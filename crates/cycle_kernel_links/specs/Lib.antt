@@ -1,0 +1,4 @@
+pub mod Lists
+pub mod Ghosts
+pub mod Pairs
+pub mod Cells
