@@ -17,5 +17,6 @@ KernelsMeetTheLaws = (w : CycleMesh) → IsCycleMesh w → AreKernels (kernels_o
 
 -- each mesh of a problem is the mesh of a cycle, with the layout of the problem's blocks and any reaction
 abbrev pub MeshesAreOfCycles : Type 0
-MeshesAreOfCycles = (p : Problem) (m : Mesh) (l : Layout) (react : List ℕ → Reacted) → IsMeshOf (settings_of p) m → l.dims ≡ p.shape.dims → l.cells ≡ p.cells →
+MeshesAreOfCycles = (p : Problem) (m : Mesh) (l : Layout) (react : List ℕ → Reacted) → IsMeshOf (settings_of p) m →
+    l.dims ≡ p.shape.dims → l.cells ≡ p.cells →
     IsCycleMesh (record { settings = settings_of p; mesh = m; layout = l; react = react })

@@ -15,11 +15,14 @@ abbrev pub mesh_with : CycleMesh → List (List (List ℕ)) → Mesh
 mesh_with w totals = record w.mesh { totals = totals }
 
 abbrev pub block_with : CycleMesh → List (List (List ℕ)) → ℕ → ℕ → FieldBlock
-block_with w totals f b = record { settings = w.settings; mesh = mesh_with w totals; field = f; leaf = leaf_at w b; layout = w.layout }
+block_with w totals f b =
+    record { settings = w.settings; mesh = mesh_with w totals; field = f; leaf = leaf_at w b; layout = w.layout }
 
 -- lists by block have the totals of a field on it
 abbrev pub HoldMesh : CycleMesh → List (List (List ℕ)) → ℕ → (ℕ → List ℕ) → Type 0
-HoldMesh w totals f lists = (b : ℕ) (i : List ℕ) → b < block_count w → IsWithin w.layout.cells i → slice_index (lists b) (number_of w.layout.cells i) ≡ stored (mesh_with w totals) f (cell_in (mesh_with w totals) (leaf_at w b) i)
+HoldMesh w totals f lists = (b : ℕ) (i : List ℕ) → b < block_count w → IsWithin w.layout.cells i →
+    slice_index (lists b) (number_of w.layout.cells i) ≡
+    stored (mesh_with w totals) f (cell_in (mesh_with w totals) (leaf_at w b) i)
 
 -- the ghosts of a block by the letters of a stage that begins with these lists, and what passes its faces
 abbrev pub ghosts_from : CycleMesh → (ℕ → List ℕ) → ℕ → ℕ → List ℕ
@@ -30,10 +33,12 @@ pairs_from w lists b f = fluxes_of w b f (lists b) (ghosts_from w lists b f)
 
 -- with these ghosts a block sees the mesh around it
 abbrev pub GhostsSeeTheMesh : Type 0
-GhostsSeeTheMesh = (w : CycleMesh) (totals : List (List (List ℕ))) (f b : ℕ) (lists : ℕ → List ℕ) → IsCycleMesh w → HoldMesh w totals f lists → b < block_count w →
+GhostsSeeTheMesh = (w : CycleMesh) (totals : List (List (List ℕ))) (f b : ℕ) (lists : ℕ → List ℕ) → IsCycleMesh w →
+    HoldMesh w totals f lists → b < block_count w →
     SeesAround (block_with w totals f b) (with_ghosts w.layout (lists b) (ghosts_from w lists b f))
 
 -- and has the mesh's pairs at its faces, but for those behind which finer cells are stored
 abbrev pub FluxesAreOwnPairs : Type 0
-FluxesAreOwnPairs = (w : CycleMesh) (totals : List (List (List ℕ))) (f b : ℕ) (lists : ℕ → List ℕ) → IsCycleMesh w → HoldMesh w totals f lists → b < block_count w →
+FluxesAreOwnPairs = (w : CycleMesh) (totals : List (List (List ℕ))) (f b : ℕ) (lists : ℕ → List ℕ) → IsCycleMesh w →
+    HoldMesh w totals f lists → b < block_count w →
     HasOwnPairs (block_with w totals f b) (pairs_from w lists b f).right (pairs_from w lists b f).left

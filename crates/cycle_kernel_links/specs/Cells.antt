@@ -33,14 +33,19 @@ pub record IsReacted (w : CycleMesh) (old now : List FieldBuf) (f : ℕ) : Type 
   pub ghosts : ghosts_in w.layout (cells_of now f) ≡ ghosts_in w.layout (cells_of old f)
 
 abbrev pub ReactionsAreThose : Type 0
-ReactionsAreThose = (w : CycleMesh) (block stamp f : ℕ) (old now made : List FieldBuf) → f < field_count w.settings → HasReacted w.react w.layout block stamp (field_count w.settings) old now made → IsReacted w old (now ++ made) f
+ReactionsAreThose = (w : CycleMesh) (block stamp f : ℕ) (old now made : List FieldBuf) → f < field_count w.settings →
+    HasReacted w.react w.layout block stamp (field_count w.settings) old now made → IsReacted w old (now ++ made) f
 
 -- flows gain what is made and used of their fields
 abbrev pub GainsAreThose : Type 0
-GainsAreThose = (w : CycleMesh) (f : ℕ) (bufs : List FieldBuf) (old new : List Flow) → f < field_count w.settings → length old ≡ field_count w.settings → HasGained w.react w.layout bufs (interior_len w.layout) old new →
-    slice_index_or new f no_flow ≡ with_parts (slice_index_or old f no_flow) (made_by w (totals_in w bufs) f) (used_by w (totals_in w bufs) f)
+GainsAreThose = (w : CycleMesh) (f : ℕ) (bufs : List FieldBuf) (old new : List Flow) → f < field_count w.settings →
+    length old ≡ field_count w.settings → HasGained w.react w.layout bufs (interior_len w.layout) old new →
+    slice_index_or new f no_flow ≡ with_parts (slice_index_or old f no_flow) (made_by w (totals_in w bufs) f)
+    (used_by w (totals_in w bufs) f)
 
 -- the wish of a criterion by the list of a block with its ghosts
 abbrev pub WishesAreThose : Type 0
-WishesAreThose = (w : CycleMesh) (b : ℕ) (c : Criterion) (totals : ℕ → List ℕ) (cells : List ℕ) → totals c.field ≡ own_totals w.layout cells →
-    wish_by c (leaf_at w b).level (measured_in c.method w.layout (leaf_at w b).level (total_at cells (box_of w.layout (interior w.layout).low))) ≡ criterion_wish w b totals c
+WishesAreThose = (w : CycleMesh) (b : ℕ) (c : Criterion) (totals : ℕ → List ℕ) (cells : List ℕ) →
+    totals c.field ≡ own_totals w.layout cells →
+    wish_by c (leaf_at w b).level (measured_in c.method w.layout (leaf_at w b).level
+      (total_at cells (box_of w.layout (interior w.layout).low))) ≡ criterion_wish w b totals c

@@ -28,14 +28,19 @@ use Rattle.cycle_kernels.specs.Pairs.{FacePairs, corrected_by, faces_corrected, 
 -- rates are those of a field on a block, and just the reflecting faces of the domain that the block has are closed
 pub record AreRatesOn (w : CycleMesh) (f b : ℕ) (rates : LevelRates) : Type 0 where
   pub denominator : rates.denominator ≡ w.settings.denominator
-  pub right : (axis : ℕ) → axis < w.layout.dims → (along rates axis).right ≡ (rates_at w.settings f axis (leaf_at w b).level).right
-  pub left : (axis : ℕ) → axis < w.layout.dims → (along rates axis).left ≡ (rates_at w.settings f axis (leaf_at w b).level).left
+  pub right : (axis : ℕ) → axis < w.layout.dims →
+    (along rates axis).right ≡ (rates_at w.settings f axis (leaf_at w b).level).right
+  pub left : (axis : ℕ) → axis < w.layout.dims →
+    (along rates axis).left ≡ (rates_at w.settings f axis (leaf_at w b).level).left
 
 abbrev pub ClosesSides : CycleMesh → ℕ → List Bool → Type 0
-ClosesSides w b closed = (axis : ℕ) (high : Bool) → axis < w.layout.dims → is_closed_side closed axis high ≡ reflects (kind_at w.settings axis high) (across w.mesh.shape (leaf_at w b) axis high)
+ClosesSides w b closed = (axis : ℕ) (high : Bool) → axis < w.layout.dims →
+    is_closed_side closed axis high ≡ reflects (kind_at w.settings axis high)
+    (across w.mesh.shape (leaf_at w b) axis high)
 
 -- lists have what passes the faces of a block, by the field's order
-pub record AreFluxLists (w : CycleMesh) (f : ℕ) (rates : LevelRates) (closed : List Bool) (cells : List ℕ) (pairs : FacePairs) : Type 0 where
+pub record AreFluxLists (w : CycleMesh) (f : ℕ) (rates : LevelRates) (closed : List Bool) (cells : List ℕ)
+    (pairs : FacePairs) : Type 0 where
   pub right_long : length pairs.right ≡ face_count w.layout
   pub left_long : length pairs.left ≡ face_count w.layout
   pub first_right : (moves_at w.settings f).order ≡ 1 → AreFluxes w.layout Below rates closed cells pairs.right
@@ -45,12 +50,17 @@ pub record AreFluxLists (w : CycleMesh) (f : ℕ) (rates : LevelRates) (closed :
 
 -- they are those of the cycle
 abbrev pub FluxesAreListed : Type 0
-FluxesAreListed = (w : CycleMesh) (f b : ℕ) (rates : LevelRates) (closed : List Bool) (cells : List ℕ) (pairs : FacePairs) → IsCycleMesh w → AreRatesOn w f b rates → ClosesSides w b closed → length cells ≡ len w.layout →
-    AreFluxLists w f rates closed cells pairs → fluxes_of w b f (own_totals w.layout cells) (ghosts_in w.layout cells) ≡ pairs
+FluxesAreListed = (w : CycleMesh) (f b : ℕ) (rates : LevelRates) (closed : List Bool) (cells : List ℕ)
+    (pairs : FacePairs) → IsCycleMesh w → AreRatesOn w f b rates → ClosesSides w b closed →
+    length cells ≡ len w.layout →
+    AreFluxLists w f rates closed cells pairs →
+    fluxes_of w b f (own_totals w.layout cells) (ghosts_in w.layout cells) ≡ pairs
 
 -- the sums of a flux letter that is due
 abbrev pub GatheredAreSent : Type 0
-GatheredAreSent = (w : CycleMesh) (x : Exchange) (pairs : FacePairs) → list_any (same_letter x) (flux_letters w.mesh) ≡ true → flux_part w.layout x.axis (not x.high) pairs.right pairs.left ≡ sums_sent w x pairs
+GatheredAreSent = (w : CycleMesh) (x : Exchange) (pairs : FacePairs) →
+    list_any (same_letter x) (flux_letters w.mesh) ≡ true →
+    flux_part w.layout x.axis (not x.high) pairs.right pairs.left ≡ sums_sent w x pairs
 
 -- an update leaves the totals of the cycle, and the ghosts
 pub record IsUpdated (w : CycleMesh) (old new : List ℕ) (pairs : FacePairs) : Type 0 where
@@ -58,7 +68,9 @@ pub record IsUpdated (w : CycleMesh) (old new : List ℕ) (pairs : FacePairs) : 
   pub ghosts : ghosts_in w.layout new ≡ ghosts_in w.layout old
 
 abbrev pub UpdatesAreThose : Type 0
-UpdatesAreThose = (w : CycleMesh) (old new : List ℕ) (pairs : FacePairs) → HasPassed w.layout (listed w.layout pairs.right) (listed w.layout pairs.left) old new → transport.GhostsStay w.layout old new → IsUpdated w old new pairs
+UpdatesAreThose = (w : CycleMesh) (old new : List ℕ) (pairs : FacePairs) →
+    HasPassed w.layout (listed w.layout pairs.right) (listed w.layout pairs.left) old new →
+    transport.GhostsStay w.layout old new → IsUpdated w old new pairs
 
 -- a flux letter that is due to a block
 pub record IsFluxDueTo (w : CycleMesh) (b : ℕ) (x : Exchange) : Type 0 where
@@ -67,29 +79,42 @@ pub record IsFluxDueTo (w : CycleMesh) (b : ℕ) (x : Exchange) : Type 0 where
 
 -- its sums stand in the faces that it is about
 abbrev pub IsReplacedBy : CycleMesh → Donor → Exchange → List ℕ → List ℕ → Type 0
-IsReplacedBy w donor x part list = (i : List ℕ) → IsWithin (coarse_extents w.layout x.axis) i → flux_in w.layout x.axis (faces_corrected w x) list i ≡ slice_index part (first_sum w.layout donor x.axis + number_of (coarse_extents w.layout x.axis) i)
+IsReplacedBy w donor x part list = (i : List ℕ) → IsWithin (coarse_extents w.layout x.axis) i →
+    flux_in w.layout x.axis (faces_corrected w x) list i ≡
+    slice_index part (first_sum w.layout donor x.axis + number_of (coarse_extents w.layout x.axis) i)
 
 -- a face that no letter to a block is about
 abbrev pub IsOwnFace : CycleMesh → ℕ → ℕ → List ℕ → Type 0
 IsOwnFace w b axis i = (x : Exchange) → IsFluxDueTo w b x → x.axis ≡ axis → covers (faces_corrected w x) i ≡ false
 
--- all letters to a block were put in the place of what passed the faces that they are about, and all other faces have what they had
-pub record AreAllReplaced (w : CycleMesh) (b : ℕ) (donor : Donor) (parts : Exchange → List ℕ) (old new : List ℕ) : Type 0 where
+-- all letters to a block were put in the place of what passed the faces that they are about, and all other faces have
+-- what they had
+pub record AreAllReplaced (w : CycleMesh) (b : ℕ) (donor : Donor) (parts : Exchange → List ℕ)
+    (old new : List ℕ) : Type 0 where
   pub long : length new ≡ face_count w.layout
   pub given : (x : Exchange) → IsFluxDueTo w b x → IsReplacedBy w donor x (parts x) new
-  pub others : (axis : ℕ) (i : List ℕ) → axis < w.layout.dims → IsWithin (face_extents w.layout axis) i → IsOwnFace w b axis i → slice_index new (face_number w.layout axis i) ≡ slice_index old (face_number w.layout axis i)
+  pub others : (axis : ℕ) (i : List ℕ) → axis < w.layout.dims → IsWithin (face_extents w.layout axis) i →
+    IsOwnFace w b axis i → slice_index new (face_number w.layout axis i) ≡ slice_index old (face_number w.layout axis i)
 
 -- then they are the corrected pairs of the cycle
 abbrev pub ReplacedAreCorrected : Type 0
-ReplacedAreCorrected = (w : CycleMesh) (b : ℕ) (parts : Exchange → List ℕ) (old new : FacePairs) → IsCycleMesh w → AreAllReplaced w b Below parts old.right new.right → AreAllReplaced w b Above parts old.left new.left → corrected_by w b old parts ≡ new
+ReplacedAreCorrected = (w : CycleMesh) (b : ℕ) (parts : Exchange → List ℕ) (old new : FacePairs) → IsCycleMesh w →
+    AreAllReplaced w b Below parts old.right new.right → AreAllReplaced w b Above parts old.left new.left →
+    corrected_by w b old parts ≡ new
 
 -- what one replacement promises of a list, by the direction
 abbrev pub IsReplacement : CycleMesh → Donor → Exchange → List ℕ → List ℕ → List ℕ → Type 0
-IsReplacement w donor x part old new = IsCorrected w.layout x.axis x.high (part_covered w x) (first_sum w.layout donor x.axis) part old new
+IsReplacement w donor x part old new = IsCorrected w.layout x.axis x.high (part_covered w x)
+    (first_sum w.layout donor x.axis) part old new
 
 -- where one more letter is put in, the sums of the others stay, and so does what passes other faces
 pub record PairsStay : Type 0 where
-  pub here : (w : CycleMesh) (donor : Donor) (x : Exchange) (part old new : List ℕ) → IsReplacement w donor x part old new → IsReplacedBy w donor x part new
-  pub letters : (w : CycleMesh) (b : ℕ) (donor : Donor) (x y : Exchange) (part other old new : List ℕ) → IsCycleMesh w → IsFluxDueTo w b x → IsFluxDueTo w b y → ¬ (x ≡ y) → IsReplacement w donor y other old new → IsReplacedBy w donor x part old → IsReplacedBy w donor x part new
-  pub others : (w : CycleMesh) (b : ℕ) (donor : Donor) (y : Exchange) (axis : ℕ) (other old new i : List ℕ) → IsCycleMesh w → IsFluxDueTo w b y → axis < w.layout.dims → IsWithin (face_extents w.layout axis) i → IsOwnFace w b axis i →
-      IsReplacement w donor y other old new → slice_index new (face_number w.layout axis i) ≡ slice_index old (face_number w.layout axis i)
+  pub here : (w : CycleMesh) (donor : Donor) (x : Exchange) (part old new : List ℕ) →
+    IsReplacement w donor x part old new → IsReplacedBy w donor x part new
+  pub letters : (w : CycleMesh) (b : ℕ) (donor : Donor) (x y : Exchange) (part other old new : List ℕ) →
+    IsCycleMesh w → IsFluxDueTo w b x → IsFluxDueTo w b y → ¬ (x ≡ y) → IsReplacement w donor y other old new →
+    IsReplacedBy w donor x part old → IsReplacedBy w donor x part new
+  pub others : (w : CycleMesh) (b : ℕ) (donor : Donor) (y : Exchange) (axis : ℕ) (other old new i : List ℕ) →
+    IsCycleMesh w → IsFluxDueTo w b y → axis < w.layout.dims → IsWithin (face_extents w.layout axis) i →
+    IsOwnFace w b axis i → IsReplacement w donor y other old new →
+    slice_index new (face_number w.layout axis i) ≡ slice_index old (face_number w.layout axis i)
