@@ -26,7 +26,7 @@ abbrev pub behind_leaf : Mesh → ℕ → ℕ → Bool → Behind
 behind_leaf m b axis high = behind m.shape (is_inner m) (leaf_at m b) axis high
 
 -- leaves by their numbers
-other_default : (xs : List Loc) (i : ℕ) (d e : Loc) → i < length xs → slice_index_or xs i d ≡ slice_index_or xs i e
+pub other_default : (xs : List Loc) (i : ℕ) (d e : Loc) → i < length xs → slice_index_or xs i d ≡ slice_index_or xs i e
 other_default [] i d e h = absurd (omega arith)
 other_default (x ∷ xs) zero d e h = refl
 other_default (x ∷ xs) (suc i) d e h = other_default xs i d e (omega arith)

@@ -1,0 +1,6 @@
+//! The masked serial run of a mesh's kernels is the cycle of the rules.
+#![tactic(auto)]
+
+mod laws;
+
+pub use laws::{ended_law, staged_law, start_law};
