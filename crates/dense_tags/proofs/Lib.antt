@@ -1,3 +1,3 @@
-mod Measured
+pub mod Measured
 mod Scaled
 mod Wishes

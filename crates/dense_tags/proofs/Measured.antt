@@ -28,7 +28,7 @@ abbrev pub HasStored : Mesh → ℕ → Loc → List ℕ → Type 0
 HasStored m f l list = (place : ℕ) → place < block_size m → stored m f (cell_at m l place) ≡ slice_index list place
 
 -- at an index of the block
-own_address : (l : Layout) (q : List ℕ) → address (own_box l) q ≡ number_of l.cells q
+pub own_address : (l : Layout) (q : List ℕ) → address (own_box l) q ≡ number_of l.cells q
 own_address l q = corner (slice_index q 0) (slice_index q 1) (slice_index q 2) (slice_index l.cells 0) (slice_index l.cells 1)
   where
     corner : (x y z a b : ℕ) → 0 + (0 + x + a * (0 + y + b * (0 + z))) ≡ x + a * (y + b * z)

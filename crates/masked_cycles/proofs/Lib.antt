@@ -5,3 +5,5 @@ pub mod Trees
 pub mod Staging
 pub mod Reacting
 pub mod Checking
+pub mod Wishes
+pub mod Ends

@@ -1,6 +1,8 @@
 //! Laws of the masked serial run of a mesh's kernels.
 
-ghost use Rattle.masked_cycles.specs.Cycles.{ChecksAgree, ReactionsAgree, StagesAgree, StartsAreStarts};
+ghost use Rattle.masked_cycles.specs.Cycles.{AllSumsAgree, ChecksAgree, ReactionsAgree, StagesAgree, StartsAreStarts, WishesAgree};
+ghost use Rattle.masked_cycles.specs.Ends.{CyclesEnd};
+ghost use Rattle.masked_cycles.specs.Wishes.{AllTagsFollow};
 
 /// The run starts as a masked serial run may.
 pub fn start_law()
@@ -17,4 +19,21 @@ pub fn staged_law()
 pub fn ended_law()
     ensures reacted { ReactionsAgree }
     ensures checked { ChecksAgree }
+{}
+
+/// After the reaction each block wishes what the leaf wishes, so that the tags and the counters of the cycle follow.
+pub fn wish_law()
+    ensures wishes { WishesAgree }
+    ensures tags { AllTagsFollow }
+{}
+
+/// What was dropped and has flowed of a field, summed over all blocks, is what the cycle drops and what flows in it.
+pub fn sum_law()
+    ensures { AllSumsAgree }
+{}
+
+/// Every complete list of events over the blocks of a mesh ends, on each leaf and for each field, with what the cycle of
+/// the rules leaves: totals, mask, buffers, wishes, drops and flows.
+pub fn cycle_law()
+    ensures { CyclesEnd }
 {}

@@ -3,4 +3,4 @@
 
 mod laws;
 
-pub use laws::{ended_law, staged_law, start_law};
+pub use laws::{cycle_law, ended_law, staged_law, start_law, sum_law, wish_law};
