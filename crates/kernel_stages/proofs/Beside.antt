@@ -1,14 +1,14 @@
 -- The ghosts beyond a side by their indices, and the parts of letters that give them.
-use Rattle.std.proofs.Common.{◌≡◌, ◌==◌, ℕ, zero, suc, ◌+◌, ◌-◌, ◌*◌, ◌/◌, ◌%◌, ◌^◌, ◌<◌, ◌≤◌, inl, inr, Bool, true, false, cond, nat_lt, List, refl, arith, ap, subst, sym, ◌∙◌, slice_index}
+use Rattle.std.proofs.Common.{◌≡◌, ◌==◌, ℕ, ◌+◌, ◌-◌, ◌*◌, ◌/◌, ◌%◌, ◌^◌, ◌<◌, ◌≤◌, inl, inr, Bool, true, false, cond, nat_lt, List, refl, arith, ap, subst, sym, ◌∙◌, slice_index}
 use Rattle.std.proofs.lemmas.Bool.{cases_eq}
 use Rattle.morton_order.specs.Space.{factor}
 use Rattle.block_layout.specs.declared.layout.Layout.{Layout}
-use Rattle.block_layout.specs.Indices.{IsWithin, added, with_along}
+use Rattle.block_layout.specs.Indices.{IsWithin, added}
 use Rattle.block_layout.specs.Layouts.{cells_along, ghost_layers, width, widths}
 use Rattle.block_layout.specs.Regions.{Region, covers, ghosts, half_along, interior, part_extent, part_low}
 use Rattle.block_geometry.proofs.Cells.{within_along}
 use Rattle.block_geometry.proofs.Rows.{two_layers}
-use Rattle.ghost_laws.proofs.Sizes.{Sized, cut}
+use Rattle.ghost_laws.proofs.Sizes.{Sized}
 use Rattle.restrict_prolong.proofs.Halves.{factor_least}
 use Rattle.ghost_buffers.specs.declared.part.How.{How}
 use Rattle.ghost_buffers.specs.declared.part.How.TheVariants.{Same, Finer, Coarser}
@@ -140,10 +140,13 @@ beyond_ends n x layer false false few e a b = refl
 
 pub one_side : (l : Layout) (r : Region) (a axis : ℕ) (h end : Bool) (layer : ℕ) (i : List ℕ) → a < l.dims → LiesBeyond l r a h → IsGhost l axis layer i → LiesAlong r (ghost_index l axis end layer i) a → (a ≡ axis) × (h ≡ end)
 one_side l r a axis h end layer i used beyond x (p, q) = elim (cases_eq a axis) [
-  | inl e ↦ (e, beyond_ends (cells_along l axis) (slice_index (ghost_index l axis end layer i) axis) layer h end x.few (index_on l axis end layer i (three l axis x.used))
-      (subst (λ v. cond h (cells_along l v + 2) 0 ≤ slice_index (ghost_index l axis end layer i) v) e (subst (λ v. v ≤ slice_index (ghost_index l axis end layer i) a) beyond.low p))
-      (subst (λ v. slice_index (ghost_index l axis end layer i) v < cond h (cells_along l v + 2) 0 + 2) e
-      (subst (λ v. slice_index (ghost_index l axis end layer i) a < v + 2) beyond.low (subst (λ v. slice_index (ghost_index l axis end layer i) a < slice_index r.low a + v) beyond.extent q))))
+  | inl e ↦ (
+    e,
+    beyond_ends (cells_along l axis) (slice_index (ghost_index l axis end layer i) axis) layer h end x.few (index_on l axis end layer i (three l axis x.used))
+        (subst (λ v. cond h (cells_along l v + 2) 0 ≤ slice_index (ghost_index l axis end layer i) v) e (subst (λ v. v ≤ slice_index (ghost_index l axis end layer i) a) beyond.low p))
+        (subst (λ v. slice_index (ghost_index l axis end layer i) v < cond h (cells_along l v + 2) 0 + 2) e
+        (subst (λ v. slice_index (ghost_index l axis end layer i) a < v + 2) beyond.low (subst (λ v. slice_index (ghost_index l axis end layer i) a < slice_index r.low a + v) beyond.extent q))),
+  )
   | inr off ↦ absurd (apart h (slice_index (ghost_index l axis end layer i) a) (cells_along l a) (slice_index i a) (ghost_layers l a) (slice_index r.low a) (slice_index r.extents a) (two_layers l a used)
       (index_off l axis end layer i a (three l axis x.used) (three l a used) off) (within_along l.cells i a x.within (three l a used)) beyond.low beyond.extent p q)
 ]
@@ -157,10 +160,10 @@ pub part_off : (l : Layout) (axis : ℕ) (high : Bool) (half k : ℕ) → axis <
     (slice_index (received Finer l axis high half).low k ≡ ghost_layers l k + half_along l.dims axis half k * (cells_along l k / 2)) × (slice_index (received Finer l axis high half).extents k ≡ half_of_cells l k)
 part_off l axis high half k h g off = (
   part_low_at l axis high half k g
-  ∙ split k axis (λ (t : Bool). slice_index (ghosts l axis high).low k + cond t 0 (half_along l.dims axis half k * (slice_index (ghosts l axis high).extents k / 2)) ≡ ghost_layers l k + half_along l.dims axis half k * (cells_along l k / 2))
-  (λ e. absurd (off e)) (λ d. ap (λ v. v + half_along l.dims axis half k * (slice_index (ghosts l axis high).extents k / 2)) (low_off l axis high k h g off) ∙ ap (λ v. ghost_layers l k + half_along l.dims axis half k * (v / 2)) (extent_off l axis high k h g off)),
+      ∙ split k axis (λ (t : Bool). slice_index (ghosts l axis high).low k + cond t 0 (half_along l.dims axis half k * (slice_index (ghosts l axis high).extents k / 2)) ≡ ghost_layers l k + half_along l.dims axis half k * (cells_along l k / 2))
+      (λ e. absurd (off e)) (λ d. ap (λ v. v + half_along l.dims axis half k * (slice_index (ghosts l axis high).extents k / 2)) (low_off l axis high k h g off) ∙ ap (λ v. ghost_layers l k + half_along l.dims axis half k * (v / 2)) (extent_off l axis high k h g off)),
   part_extent_at l axis high half k g
-  ∙ split k axis (λ (t : Bool). cond t (slice_index (ghosts l axis high).extents k) (slice_index (ghosts l axis high).extents k / factor l.dims k) ≡ half_of_cells l k) (λ e. absurd (off e)) (λ d. ap (λ v. v / factor l.dims k) (extent_off l axis high k h g off)),
+      ∙ split k axis (λ (t : Bool). cond t (slice_index (ghosts l axis high).extents k) (slice_index (ghosts l axis high).extents k / factor l.dims k) ≡ half_of_cells l k) (λ e. absurd (off e)) (λ d. ap (λ v. v / factor l.dims k) (extent_off l axis high k h g off)),
 )
 
 pub sized_along : (l : Layout) (k : ℕ) → k < 3 → Sized (nat_lt k l.dims) (cells_along l k)

@@ -1,5 +1,5 @@
 -- What calls for a field on a block.
-use Rattle.std.proofs.Common.{◌≡◌, ◌⊎◌, ◌==◌, inl, inr, ℕ, ◌+◌, ◌<◌, Bool, true, false, cond, ◌&&◌, ◌||◌, nat_lt, List, [], ◌∷◌, Contains, length, refl, arith, ap, subst, sym, ◌∙◌}
+use Rattle.std.proofs.Common.{◌≡◌, ◌⊎◌, ◌==◌, inl, inr, ℕ, ◌+◌, ◌<◌, Bool, true, false, cond, ◌&&◌, ◌||◌, nat_lt, List, length, refl, arith, ap, subst, sym, ◌∙◌}
 use Rattle.std.specs.List.{list_any, range_with_len}
 use Rattle.std.proofs.lemmas.Bool.{and_parts, eqb-true, false≢true, lt-ltb}
 use Rattle.std.proofs.lemmas.Bool.Decides.{nat_tests}
@@ -15,7 +15,7 @@ use Rattle.cycle_kernels.specs.Blocks.{CycleMesh, enters_above, is_domain_face, 
 use Rattle.cycle_kernels.specs.Blocks as blocks
 use Rattle.cycle_kernels.specs.Kernels.{kernels_of}
 use Rattle.kernel_stages.specs.Letters.{IsDue}
-use Rattle.kernel_stages.proofs.Members.{In, any_in, contains_in, in_any, in_contains, in_range, range_in, same_tests}
+use Rattle.kernel_stages.proofs.Members.{In, any_in, in_any, in_range, range_in, same_tests}
 use Rattle.kernel_stages.proofs.DueLetters.{behind_leaf, due_ghost, ghost_due, in_named, named_in}
 use Rattle.kernel_stages.proofs.Senders.{IsSound}
 use Rattle.kernel_stages.proofs.Seen.{region_sent_to}

@@ -1,25 +1,23 @@
 -- The pairs of a block, corrected by the sums of finer leaves, are the mesh's.
-use Rattle.std.proofs.Common.{◌≡◌, ◌⊎◌, ◌==◌, inl, inr, ℕ, zero, suc, ◌+◌, ◌-◌, ◌<◌, ◌≤◌, Bool, true, false, cond, ◌&&◌, not, Option, Some, None, List, [], ◌∷◌, Contains, IsTrue, map, length, refl, arith, ap, subst, sym, ◌∙◌, slice_index}
+use Rattle.std.proofs.Common.{◌≡◌, ◌⊎◌, ◌==◌, inl, inr, ℕ, zero, suc, ◌+◌, ◌-◌, ◌<◌, ◌≤◌, Bool, true, false, cond, ◌&&◌, not, Option, Some, None, List, [], ◌∷◌, Contains, map, length, refl, arith, ap, subst, sym, ◌∙◌, slice_index}
 use Rattle.std.specs.Option.{option_map}
-use Rattle.std.specs.List.{list_any}
 use Rattle.std.proofs.lemmas.Bool.{and_parts, eqb-true, false≢true}
 use Rattle.std.proofs.lemmas.Bool.Decides.{nat_tests}
 use Rattle.morton_order.specs.declared.space.Loc.{Loc}
 use Rattle.morton_order.specs.Space.{child, child_number, parent, parts}
 use Rattle.morton_order.specs.Neighbours.{across}
 use Rattle.block_tree.specs.Behind.{Behind, Names, behind_at, children_at, coarse, fine, same}
-use Rattle.block_tree.specs.Tree.{IsLeaf, is_node}
+use Rattle.block_tree.specs.Tree.{is_node}
 use Rattle.block_tree.proofs.Behinds.{number_of_child}
 use Rattle.mesh_rules.specs.Mesh.{Mesh, cells_along, is_inner, leaf_number}
 use Rattle.mesh_rules.specs.Due.{Exchange, flux_letters}
 use Rattle.mesh_rules.specs.Faces.{Pair, cell_across}
 use Rattle.block_layout.specs.declared.layout.Layout.{Layout}
-use Rattle.block_layout.specs.Laws.{IsSame}
-use Rattle.block_layout.specs.Indices.{IsWithin, added, count_of, number_of, with_along}
-use Rattle.block_layout.specs.Faces.{face_extents, face_number}
+use Rattle.block_layout.specs.Indices.{IsWithin, added, number_of, with_along}
+use Rattle.block_layout.specs.Faces.{face_extents}
 use Rattle.block_layout.specs.Regions.{Region, covers}
 use Rattle.block_geometry.specs.Blocks.{FieldBlock, IsAtSide, IsFieldBlock, cell_in, end_of}
-use Rattle.block_geometry.specs.Contents.{HasOwnPairs, HasPair, HasPairs, is_finer_in, pair_of}
+use Rattle.block_geometry.specs.Contents.{HasOwnPairs, HasPairs, is_finer_in, pair_of}
 use Rattle.block_geometry.proofs.Cells.{across_beyond, block_of_cell_in}
 use Rattle.block_geometry.proofs.Rows.{within_with}
 use Rattle.block_geometry.proofs.Seen.{in_mesh, same_cells, three_axes}
@@ -37,19 +35,18 @@ use Rattle.correction_laws.specs.Replaced.{Covers, GainsPairs, IsNextTo, IsRepla
 use Rattle.correction_laws.proofs.Covered.{InHalf, in_part, in_part_within, part_face}
 use Rattle.correction_laws.proofs.Others.{AtSide, Found, covered_within, found}
 use Rattle.correction_laws.proofs.Replaced.{replaced_gain_pairs, shaped_is}
-use Rattle.letter_laws.specs.Sides.{IsSide, side_part}
-use Rattle.letter_laws.proofs.Behinds.{Finer as Met, child_of, fine_met}
+use Rattle.letter_laws.specs.Sides.{side_part}
+use Rattle.letter_laws.proofs.Behinds.{child_of, fine_met}
 use Rattle.letter_laws.proofs.FinerLevel.{below_is}
 use Rattle.letter_laws.proofs.Spans.{finer_kind}
 use Rattle.ghost_buffers.specs.declared.part.How.{How}
-use Rattle.ghost_buffers.specs.declared.part.How.TheVariants.{Finer}
 use Rattle.dense_mask.proofs.Leaves.{number_of_leaf}
 use Rattle.sparse_rounds.specs.Row.{same_bool}
 use Rattle.cycle_kernels.specs.Blocks.{CycleMesh, leaf_at}
-use Rattle.cycle_kernels.specs.Letters.{how_by, how_sent, no_part, part_by, part_covered, same_letter}
+use Rattle.cycle_kernels.specs.Letters.{how_by, no_part, part_by, part_covered, same_letter}
 use Rattle.cycle_kernels.specs.Lists.{less}
 use Rattle.cycle_kernels.specs.Pairs.{FacePairs, corrected_at, corrected_by, face_list, faces_corrected, first_sum, sum_given, sums_sent}
-use Rattle.kernel_stages.specs.Letters.{IsDue, IsFluxDue}
+use Rattle.kernel_stages.specs.Letters.{IsFluxDue}
 use Rattle.kernel_stages.proofs.Members.{In, in_any}
 use Rattle.kernel_stages.proofs.DueLetters.{behind_leaf, due_flux, flux_due, number_at}
 use Rattle.kernel_stages.proofs.Places.{LiesAlong, covers_lies, less_added, lies_covers, whole}
@@ -318,7 +315,10 @@ finer_letter w b f axis high i sound few used within finer =
     let (is, d) = is_due w b axis high o sound few used' (subst (λ (v : Behind). Names v o) (sym behind) near.among) in
     let fd : IsFluxDue m x = record { due = d; finer = os; is = behind } in
     let half : InHalf l m axis high (child_number D o) i = record {
-      fit = l.sound; three = three_axes B axis block used; within = within; at = at;
+      fit = l.sound;
+      three = three_axes B axis block used;
+      within = within;
+      at = at;
       lies = subst (λ (v : Mesh). LiesInChild v (child_number D o) (across_index v axis high 0 i)) (sym (shaped_is l m sound.layout)) near.lies;
     } in
     record {

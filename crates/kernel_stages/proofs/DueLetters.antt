@@ -1,9 +1,9 @@
 -- Which letters are due.
-use Rattle.std.proofs.Common.{◌≡◌, ◌⊎◌, inl, inr, ℕ, zero, suc, ◌+◌, ◌-◌, ◌<◌, ◌≤◌, Bool, true, false, cond, not, Option, Some, None, map, List, [], ◌∷◌, ◌++◌, Contains, length, refl, arith, ap, subst, sym, ◌∙◌}
-use Rattle.std.specs.List.{enumerate_from, position_or_len, range_with_len, slice_index_or}
+use Rattle.std.proofs.Common.{◌≡◌, inl, inr, ℕ, zero, suc, ◌+◌, ◌-◌, ◌<◌, Bool, true, false, cond, not, Option, Some, None, map, List, [], ◌∷◌, ◌++◌, length, refl, arith, ap, subst, sym, ◌∙◌}
+use Rattle.std.specs.List.{enumerate_from, range_with_len, slice_index_or}
 use Rattle.std.proofs.lemmas.Option.{slice_get-get_or}
 use Rattle.morton_order.specs.declared.space.Loc.{Loc}
-use Rattle.morton_order.specs.Space.{child, parent, same_loc}
+use Rattle.morton_order.specs.Space.{child, parent}
 use Rattle.morton_order.specs.Neighbours.{across}
 use Rattle.morton_order.proofs.Crossing.{crossed_level}
 use Rattle.block_tree.specs.Behind.{Behind, Names, behind, behind_at, children_at, coarse, fine, outside, same}

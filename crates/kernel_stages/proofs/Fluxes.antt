@@ -1,18 +1,15 @@
 -- What passes the faces of a block by its own totals and ghosts is the mesh's own pairs.
-use Rattle.std.proofs.Common.{◌≡◌, ◌⊎◌, ◌==◌, inl, inr, ℕ, zero, suc, ◌+◌, ◌-◌, ◌<◌, ◌≤◌, Bool, true, false, cond, List, [], ◌∷◌, ◌++◌, All, length, refl, arith, ap, subst, sym, ◌∙◌, slice_index}
+use Rattle.std.proofs.Common.{◌≡◌, ◌⊎◌, ◌==◌, inl, inr, ℕ, zero, suc, ◌+◌, ◌-◌, ◌<◌, ◌≤◌, Bool, true, false, cond, List, [], ◌∷◌, ◌++◌, length, refl, arith, ap, subst, sym, ◌∙◌, slice_index}
 use Rattle.std.proofs.lemmas.List.{get_or-append_right, get_or_append_left}
 use Rattle.std.proofs.lemmas.List.Elements.{All-get_or}
 use Rattle.std.proofs.lemmas.List.FromFn.{length-map-range_with_len}
-use Rattle.std.proofs.lemmas.Bool.{ne_eqb}
-use Rattle.std.proofs.lemmas.Bool.Decides.{nat_tests}
 use Rattle.problem_set.specs.SoundEntries.{AreFields, IsMoves}
 use Rattle.problem_set.specs.declared.rates.Rates.{Rates}
 use Rattle.morton_order.specs.Neighbours.{across}
 use Rattle.mesh_rules.specs.Fields.{field_count, kind_at, moves_at, rates_at}
-use Rattle.mesh_rules.specs.Sums.{table}
 use Rattle.block_layout.specs.declared.layout.Layout.{Layout}
-use Rattle.block_layout.specs.Indices.{IsWithin, count_of, index_of, number_of}
-use Rattle.block_layout.specs.Faces.{face_extents, face_number, faces_along, first_face}
+use Rattle.block_layout.specs.Indices.{IsWithin, index_of, number_of}
+use Rattle.block_layout.specs.Faces.{face_extents, face_number, faces_along}
 use Rattle.block_layout.proofs.Boxes.{number_bound, number_index}
 use Rattle.block_layout.proofs.FaceNumbers.{faces_in_use}
 use Rattle.block_geometry.specs.Contents.{HasInterior, HasOwnPairs, SeesAround}

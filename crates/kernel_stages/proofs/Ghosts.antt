@@ -1,20 +1,16 @@
 -- The ghosts of a block are what the mesh sees around it.
-use Rattle.std.proofs.Common.{◌≡◌, ◌⊎◌, inl, inr, ℕ, ◌+◌, ◌<◌, Bool, true, false, cond, ◌&&◌, nat_lt, List, [], ◌∷◌, Contains, length, refl, arith, ap, subst, sym, ◌∙◌, slice_index}
-use Rattle.std.proofs.lemmas.Bool.{false≢true, lt-ltb}
+use Rattle.std.proofs.Common.{◌≡◌, ◌⊎◌, inl, inr, ℕ, ◌<◌, Bool, true, cond, ◌&&◌, List, length, refl, ap, subst, sym, ◌∙◌, slice_index}
+use Rattle.std.proofs.lemmas.Bool.{lt-ltb}
 use Rattle.morton_order.specs.declared.space.Loc.{Loc}
-use Rattle.morton_order.specs.declared.space.Side.{Side}
 use Rattle.morton_order.specs.Space.{child_number}
 use Rattle.block_tree.specs.Behind.{Behind, Names, coarse, fine, outside, same}
 use Rattle.mesh_rules.specs.Fields as fields
 use Rattle.mesh_rules.specs.Mesh.{leaf_number}
 use Rattle.mesh_rules.specs.Due.{Exchange, ghost_letters}
 use Rattle.block_layout.specs.declared.layout.Layout.{Layout}
-use Rattle.block_layout.specs.Indices.{IsWithin}
-use Rattle.block_layout.specs.Layouts.{place}
 use Rattle.block_layout.specs.Regions.{covers, ghosts}
 use Rattle.block_geometry.specs.Blocks.{IsAtSide, ghost_place}
 use Rattle.block_geometry.specs.Contents.{SeesAround}
-use Rattle.ghost_laws.specs.Given.{IsBeside}
 use Rattle.ghost_laws.specs.Layers.{seen_in_layer}
 use Rattle.ghost_laws.proofs.Layers.{outside_seen}
 use Rattle.ghost_buffers.specs.declared.part.How.{How}
@@ -28,13 +24,12 @@ use Rattle.cycle_kernels.specs.Blocks as blocks
 use Rattle.cycle_kernels.specs.Letters.{ghost_at, ghosts_by, how_sent, outside_at, part_by, region_given, sides, total_given}
 use Rattle.cycle_kernels.specs.Lists.{index_at, with_ghosts}
 use Rattle.kernel_stages.specs.Letters.{IsDue}
-use Rattle.kernel_stages.proofs.Members.{In}
 use Rattle.kernel_stages.proofs.DueLetters.{behind_leaf, due_ghost, ghost_due, leaf_with, number_at, receiver}
-use Rattle.kernel_stages.proofs.Places.{covers_lies, ghost_read, index_is, read_at, whole}
+use Rattle.kernel_stages.proofs.Places.{covers_lies, ghost_read, index_is, read_at}
 use Rattle.kernel_stages.proofs.Senders.{IsSound, StandsAs, block_on, block_sound, sends, side_sound}
 use Rattle.kernel_stages.proofs.Beside.{IsGhost, ghost_in_side, ghost_index, ghost_not_own, ghost_within, lies_beyond, one_side, three}
-use Rattle.kernel_stages.proofs.Halves.{FinerBeside, finer_beside, part_covers}
-use Rattle.kernel_stages.proofs.Seen.{AllGive, Covering, IsGivenAt, SidesGive, ghost_found, letter_gives, outside_found, region_sent_to, side_among, side_used}
+use Rattle.kernel_stages.proofs.Halves.{finer_beside, part_covers}
+use Rattle.kernel_stages.proofs.Seen.{AllGive, Covering, SidesGive, ghost_found, letter_gives, outside_found, region_sent_to, side_among, side_used}
 
 -- a ghost beyond a side of a block, and parts that have the regions of the mesh for the letters to the block
 pub record Setting (w : CycleMesh) (b f axis : ℕ) (high : Bool) (layer : ℕ) (i : List ℕ) (parts : Exchange → List ℕ) : Type 0 where

@@ -1,5 +1,5 @@
 -- In which part of a side a ghost lies, by the finer leaf that covers the part.
-use Rattle.std.proofs.Common.{◌≡◌, ◌==◌, ℕ, ◌+◌, ◌-◌, ◌*◌, ◌/◌, ◌%◌, ◌<◌, ◌≤◌, inl, inr, Bool, true, false, cond, not, nat_lt, List, Contains, refl, arith, ap, subst, sym, ◌∙◌, slice_index}
+use Rattle.std.proofs.Common.{◌≡◌, ℕ, ◌+◌, ◌-◌, ◌*◌, ◌/◌, ◌%◌, ◌<◌, ◌≤◌, inl, inr, Bool, true, false, cond, not, nat_lt, List, Contains, refl, arith, ap, subst, sym, ◌∙◌, slice_index}
 use Rattle.std.proofs.lemmas.Bool.{cases_eq}
 use Rattle.morton_order.specs.declared.space.Loc.{Loc}
 use Rattle.morton_order.specs.Space.{child, child_number, factor, parts}
@@ -16,17 +16,17 @@ use Rattle.block_geometry.proofs.Seen.{same_cells, three_axes}
 use Rattle.ghost_laws.specs.Given.{IsBeside}
 use Rattle.ghost_laws.specs.Layers.{across_index, layer_along}
 use Rattle.ghost_laws.specs.Refined.{LiesInChild, child_at, half_cells, halves_of}
-use Rattle.ghost_laws.proofs.Layers.{count_at, sizes, used_in, wide, within_across}
+use Rattle.ghost_laws.proofs.Layers.{count_at, sizes, used_in, within_across}
 use Rattle.ghost_laws.proofs.Meeting.{lies_along, sender_half, two_parts}
 use Rattle.ghost_laws.proofs.Senders.{lies_in_child}
 use Rattle.ghost_buffers.specs.declared.part.How.TheVariants.{Finer}
 use Rattle.ghost_buffers.specs.Ghosts.{received}
 use Rattle.correction_laws.proofs.Digits.{back_together, first_half, half_again, rest_below}
 use Rattle.letter_laws.specs.Sides.{IsSide, behind_side, side_part}
-use Rattle.letter_laws.proofs.Along.{each_axis, split, with_at}
+use Rattle.letter_laws.proofs.Along.{split, with_at}
 use Rattle.letter_laws.proofs.Behinds.{child_among, fine_met}
 use Rattle.letter_laws.proofs.FinerHalves.{halves_below, number_halves, side_at_half}
-use Rattle.letter_laws.proofs.FinerLevel.{Below, below_is}
+use Rattle.letter_laws.proofs.FinerLevel.{below_is}
 use Rattle.letter_laws.proofs.Halves.{half_is}
 use Rattle.kernel_stages.proofs.Places.{LiesAlong, covers_lies, lies_covers}
 use Rattle.kernel_stages.proofs.Beside.{IsGhost, ghost_index, ghost_on, half_below, half_of_cells, index_off, lies_beyond, part_off, sized_along}

@@ -1,13 +1,13 @@
 -- The places of a block's list by their indices.
-use Rattle.std.proofs.Common.{◌≡◌, ◌==◌, ℕ, zero, suc, ◌+◌, ◌-◌, ◌*◌, ◌/◌, ◌<◌, ◌≤◌, Bool, true, false, cond, ◌&&◌, nat_le, nat_lt, List, [], ◌∷◌, length, refl, arith, ap, subst, sym, ◌∙◌, slice_index}
+use Rattle.std.proofs.Common.{◌≡◌, ℕ, ◌+◌, ◌-◌, ◌<◌, ◌≤◌, Bool, true, false, cond, ◌&&◌, nat_le, nat_lt, List, [], ◌∷◌, length, arith, ap, sym, ◌∙◌, slice_index}
 use Rattle.std.proofs.lemmas.Bool.{and_parts}
 use Rattle.std.proofs.lemmas.Bool.Decides.{nat_tests}
 use Rattle.morton_order.specs.declared.space.Loc.{Loc}
 use Rattle.mesh_rules.specs.Sums.{table}
-use Rattle.mesh_rules.specs.Mesh.{IsMesh, Mesh, block_size, stored, totals_on}
+use Rattle.mesh_rules.specs.Mesh.{IsMesh, Mesh, stored, totals_on}
 use Rattle.block_layout.specs.declared.layout.Layout.{Layout}
 use Rattle.block_layout.specs.Laws.{IsSame}
-use Rattle.block_layout.specs.Indices.{IsWithin, added, count_of, index_of, number_of}
+use Rattle.block_layout.specs.Indices.{IsWithin, added, index_of, number_of}
 use Rattle.block_layout.specs.Layouts.{len, place, widths}
 use Rattle.block_layout.specs.Regions.{Region, covers, covers_along, interior}
 use Rattle.block_layout.proofs.Boxes.{number_bound, number_index}

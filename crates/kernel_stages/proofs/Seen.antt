@@ -1,44 +1,35 @@
 -- The ghosts that due letters give are what the mesh sees.
-use Rattle.std.proofs.Common.{◌≡◌, ◌⊎◌, ◌==◌, inl, inr, ℕ, zero, suc, ◌+◌, ◌<◌, ◌≤◌, Bool, true, false, cond, ◌&&◌, nat_lt, List, [], ◌∷◌, ◌++◌, Contains, length, refl, arith, ap, subst, sym, ◌∙◌, slice_index}
+use Rattle.std.proofs.Common.{◌≡◌, ◌⊎◌, ◌==◌, inl, inr, ℕ, zero, suc, ◌+◌, ◌<◌, Bool, true, false, cond, ◌&&◌, List, [], ◌∷◌, refl, arith, ap, subst, sym, ◌∙◌, slice_index}
 use Rattle.std.specs.List.{range_with_len}
-use Rattle.std.proofs.lemmas.Bool.{and_parts, eqb-true, false≢true, lt-ltb}
+use Rattle.std.proofs.lemmas.Bool.{and_parts, eqb-true, false≢true}
 use Rattle.std.proofs.lemmas.Bool.Decides.{nat_tests}
-use Rattle.morton_order.specs.declared.space.Loc.{Loc}
 use Rattle.morton_order.specs.declared.space.Side.{Side}
-use Rattle.block_tree.specs.Behind.{Behind, coarse, fine, outside, same}
 use Rattle.mesh_rules.specs.Sums.{table}
-use Rattle.mesh_rules.specs.Mesh.{leaf_number}
-use Rattle.mesh_rules.specs.Due.{Exchange, ghost_letters}
+use Rattle.mesh_rules.specs.Due.{Exchange}
 use Rattle.mesh_rules.specs.Regions.{region}
 use Rattle.block_layout.specs.declared.layout.Layout.{Layout}
 use Rattle.block_layout.specs.Indices.{IsWithin, added}
 use Rattle.block_layout.specs.Layouts.{len, place, widths}
 use Rattle.block_layout.specs.Regions.{covers, ghosts}
 use Rattle.block_geometry.specs.Blocks.{FieldBlock, IsAtSide, ghost_place}
-use Rattle.block_geometry.specs.Contents.{SeesAround, SeesBeyond}
+use Rattle.block_geometry.specs.Contents.{SeesBeyond}
 use Rattle.block_regions.specs.Written.{HasRegion}
-use Rattle.ghost_laws.specs.Given.{IsBeside}
 use Rattle.ghost_laws.specs.Layers.{seen_in_layer}
-use Rattle.ghost_laws.proofs.Layers.{outside_seen}
 use Rattle.ghost_buffers.specs.declared.part.How.{How}
 use Rattle.ghost_buffers.specs.declared.part.How.TheVariants.{Same, Finer, Coarser}
 use Rattle.ghost_buffers.specs.Ghosts.{ghost_cell, received}
-use Rattle.letter_laws.specs.Sides.{IsSide, behind_side}
-use Rattle.letter_laws.proofs.Behinds.{outside_met}
 use Rattle.letter_laws.proofs.CoarserLevel.{coarser_sees}
 use Rattle.letter_laws.proofs.FinerGhosts.{finer_sees}
-use Rattle.letter_laws.proofs.SameLevel.{both_layers, ghost_in_layers, same_sees}
+use Rattle.letter_laws.proofs.SameLevel.{ghost_in_layers, same_sees}
 use Rattle.cycle_kernels.specs.Blocks.{CycleMesh, is_domain_face, leaf_at, total_outside}
-use Rattle.cycle_kernels.specs.Blocks as blocks
-use Rattle.cycle_kernels.specs.Letters.{ghost_at, ghosts_by, how_sent, outside_at, part_by, region_given, sides, total_given}
-use Rattle.cycle_kernels.specs.Lists.{index_at, less, with_ghosts}
+use Rattle.cycle_kernels.specs.Letters.{ghost_at, outside_at, part_by, region_given, sides, total_given}
+use Rattle.cycle_kernels.specs.Lists.{index_at, less}
 use Rattle.kernel_stages.specs.Letters.{IsDue}
-use Rattle.kernel_stages.proofs.Members.{In, append_in, flat_in, in_flat, in_range, range_in}
-use Rattle.kernel_stages.proofs.DueLetters.{behind_leaf, due_ghost, ghost_due, leaf_with, number_at, receiver}
-use Rattle.kernel_stages.proofs.Places.{covers_lies, ghost_read, index_is, less_added, read_at, whole}
-use Rattle.kernel_stages.proofs.Senders.{IsSound, Sends, StandsAs, block_on, block_sound, sends, side_sound}
-use Rattle.kernel_stages.proofs.Beside.{IsGhost, ghost_in_side, ghost_index, ghost_not_own, ghost_within, lies_beyond, one_side, received_within, three}
-use Rattle.kernel_stages.proofs.Halves.{FinerBeside, finer_beside, lies_beside, part_covers}
+use Rattle.kernel_stages.proofs.Members.{In, flat_in, in_flat, in_range, range_in}
+use Rattle.kernel_stages.proofs.Places.{index_is, less_added, read_at, whole}
+use Rattle.kernel_stages.proofs.Senders.{IsSound, StandsAs, block_on, sends, side_sound}
+use Rattle.kernel_stages.proofs.Beside.{IsGhost, ghost_index, ghost_within, received_within, three}
+use Rattle.kernel_stages.proofs.Halves.{lies_beside}
 
 -- what a part gives for an index, by what the sender is to the receiver, and a list with just that
 abbrev pub given_by : How → CycleMesh → Exchange → List ℕ → List ℕ → ℕ

@@ -1,5 +1,5 @@
 -- Senders of due letters, by what they are to their receivers.
-use Rattle.std.proofs.Common.{◌≡◌, ℕ, ◌+◌, ◌<◌, Bool, not, List, [], Contains, length, refl, arith, ap, subst, sym, ◌∙◌, slice_index}
+use Rattle.std.proofs.Common.{◌≡◌, ℕ, ◌<◌, not, List, [], Contains, length, refl, arith, ap, subst, sym, ◌∙◌, slice_index}
 use Rattle.morton_order.specs.declared.space.Loc.{Loc}
 use Rattle.morton_order.proofs.Crossing.{crossed_level}
 use Rattle.block_tree.specs.Behind.{Behind, Names, coarse, fine, outside, same}
@@ -19,7 +19,7 @@ use Rattle.letter_laws.proofs.FinerLevel.{below_is, finer_sends}
 use Rattle.letter_laws.proofs.SameLevel.{same_sends}
 use Rattle.letter_laws.proofs.Spans.{coarser_kind, finer_kind, same_kind}
 use Rattle.cycle_kernels.specs.Blocks.{CycleMesh, leaf_at}
-use Rattle.cycle_kernels.specs.Letters.{how_by, how_sent, part_by, part_covered, region_sent}
+use Rattle.cycle_kernels.specs.Letters.{how_by, how_sent, part_by, region_sent}
 use Rattle.cycle_kernels.specs.Lists.{with_ghosts}
 use Rattle.kernel_stages.specs.Letters.{IsDue}
 use Rattle.kernel_stages.proofs.DueLetters.{behind_leaf, leaf_with}

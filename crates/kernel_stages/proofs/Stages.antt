@@ -1,31 +1,27 @@
 -- A stage by the kernels is the stage of the rules.
-use Rattle.std.proofs.Common.{◌≡◌, ◌==◌, ℕ, zero, suc, ◌+◌, ◌-◌, ◌*◌, ◌/◌, ◌<◌, ◌≤◌, Bool, true, false, cond, ◌&&◌, nat_lt, not, Option, Some, None, List, [], ◌∷◌, map, length, refl, arith, ap, subst, sym, ◌∙◌, slice_index}
-use Rattle.std.specs.List.{range_with_len, slice_index_or}
-use Rattle.std.proofs.lemmas.Bool.{false≢true, lt-ltb}
+use Rattle.std.proofs.Common.{◌≡◌, ℕ, zero, suc, ◌+◌, ◌-◌, ◌<◌, Bool, true, false, cond, ◌&&◌, not, Option, Some, None, List, [], map, length, refl, arith, ap, sym, ◌∙◌, slice_index}
+use Rattle.std.specs.List.{slice_index_or}
+use Rattle.std.proofs.lemmas.Bool.{lt-ltb}
 use Rattle.std.proofs.lemmas.List.{get_or-map}
 use Rattle.std.proofs.lemmas.List.FromFn.{get_or-map-range_with_len}
-use Rattle.mesh_num.specs.Portion.{portion}
 use Rattle.morton_order.specs.declared.space.Loc.{Loc}
 use Rattle.morton_order.specs.Neighbours.{across}
 use Rattle.morton_order.specs.Space.{child, parent}
 use Rattle.block_tree.specs.Behind.{behind_at, children_at, coarse, fine, same}
 use Rattle.block_tree.specs.Tree.{is_node}
-use Rattle.problem_set.specs.Settings.{Settings}
-use Rattle.problem_set.specs.declared.words.FaceKind.{FaceKind}
-use Rattle.problem_set.specs.declared.words.FaceKind.TheVariants.{Periodic, Outflow, Reflecting, Inflow}
-use Rattle.mesh_rules.specs.Sums.{sum_over, sum_to, table}
-use Rattle.mesh_rules.specs.Mesh.{Mesh, block_of, block_size, cell_at, filled, is_inner, stored, totals_on}
+use Rattle.mesh_rules.specs.Sums.{sum_to, table}
+use Rattle.mesh_rules.specs.Mesh.{Mesh, block_size, cell_at, filled, is_inner, stored, totals_on}
 use Rattle.mesh_rules.specs.Due.{Exchange}
 use Rattle.mesh_rules.specs.Fields.{field_count, has_fluxes, is_sparse}
 use Rattle.mesh_rules.specs.Mask.{exchange_calls}
-use Rattle.mesh_rules.specs.Stage.{cell_inflow, cell_outflow, gain, leaf_inflow, leaf_outflow, loss, stage, staged, when_outside}
+use Rattle.mesh_rules.specs.Stage.{cell_inflow, cell_outflow, leaf_inflow, leaf_outflow, stage, staged, when_outside}
 use Rattle.mesh_laws.proofs.Totals.{sum_to-same}
 use Rattle.block_layout.specs.declared.layout.Layout.{Layout}
-use Rattle.block_layout.specs.Indices.{IsWithin, count_of, index_of, number_of}
+use Rattle.block_layout.specs.Indices.{count_of, index_of}
 use Rattle.block_layout.specs.Layouts.{interior_len}
 use Rattle.block_layout.proofs.Boxes.{index_below, index_number}
-use Rattle.block_geometry.specs.Blocks.{FieldBlock, cell_in, own_place}
-use Rattle.block_geometry.specs.Contents.{HasInterior, HasPairs}
+use Rattle.block_geometry.specs.Blocks.{cell_in, own_place}
+use Rattle.block_geometry.specs.Contents.{HasPairs}
 use Rattle.block_laws.specs.Update.{gained, lost}
 use Rattle.block_laws.proofs.Updates.{update_is_stage}
 use Rattle.flow_laws.specs.Flows.{passed_outside, passed_side}
@@ -42,10 +38,9 @@ use Rattle.dense_mesh.proofs.Tables.{table_by}
 use Rattle.cycle_kernels.specs.Blocks.{CycleMesh, is_domain_face, leaf_at}
 use Rattle.cycle_kernels.specs.Blocks as blocks
 use Rattle.cycle_kernels.specs.Kernels.{kernels_of}
-use Rattle.cycle_kernels.specs.Letters.{ghosts_by, region_sent}
+use Rattle.cycle_kernels.specs.Letters.{region_sent}
 use Rattle.cycle_kernels.specs.Lists.{with_ghosts}
 use Rattle.cycle_kernels.specs.Pairs.{FacePairs, inflow_of, outflow_of, passed_face, sums_sent, updated_at, updated_by}
-use Rattle.kernel_stages.specs.Letters.{IsDue, IsFluxDue}
 use Rattle.kernel_stages.specs.Stages.{HasTotals, IsReady, IsStage, StagesAreTheRules}
 use Rattle.kernel_stages.proofs.Places.{own_read}
 use Rattle.kernel_stages.proofs.Senders.{IsSound, block_on, block_sound, has_own, region_is}
@@ -138,11 +133,11 @@ flows_are : (w : CycleMesh) (b f : ℕ) (pairs : FacePairs) → IsSound w → b 
 flows_are w b f pairs sound few has =
     let flows = domain_flows (block_on w f b) pairs.right pairs.left (block_sound w f b sound few) has in (
       sum_to-same w.layout.dims (λ axis. passed_face w b axis false pairs.right + passed_face w b axis true pairs.left) (λ axis. passed_outside (block_on w f b) pairs.right axis false + passed_outside (block_on w f b) pairs.left axis true)
-      (λ axis used. both_are _ _ _ _ (face_passes w b f axis false pairs.right few used) (face_passes w b f axis true pairs.left few used))
-      ∙ sym flows.inflow,
+          (λ axis used. both_are _ _ _ _ (face_passes w b f axis false pairs.right few used) (face_passes w b f axis true pairs.left few used))
+          ∙ sym flows.inflow,
       sum_to-same w.layout.dims (λ axis. passed_face w b axis false pairs.left + passed_face w b axis true pairs.right) (λ axis. passed_outside (block_on w f b) pairs.left axis false + passed_outside (block_on w f b) pairs.right axis true)
-      (λ axis used. both_are _ _ _ _ (face_passes w b f axis false pairs.left few used) (face_passes w b f axis true pairs.right few used))
-      ∙ sym flows.outflow,
+          (λ axis used. both_are _ _ _ _ (face_passes w b f axis false pairs.left few used) (face_passes w b f axis true pairs.right few used))
+          ∙ sym flows.outflow,
     )
 
 -- a field without fluxes stays as it is

@@ -88,9 +88,9 @@ pub still_flows : (p : Settings) (m : Mesh) (f : ℕ) (c : Loc) → has_fluxes p
 still_flows p m f c none =
     let none_at : (axis : ℕ) (high : Bool) → face_pair p m f c axis high ≡ no_pair = λ axis high. still_face p m f c axis high none in (
       no_terms m.shape.dims (λ axis. when_outside (cell_across m c axis false) (face_pair p m f c axis false).right + when_outside (cell_across m c axis true) (face_pair p m f c axis true).left)
-      (λ axis. both _ _ (none_outside (cell_across m c axis false) _ (ap (λ (x : Pair). x.right) (none_at axis false))) (none_outside (cell_across m c axis true) _ (ap (λ (x : Pair). x.left) (none_at axis true)))),
+          (λ axis. both _ _ (none_outside (cell_across m c axis false) _ (ap (λ (x : Pair). x.right) (none_at axis false))) (none_outside (cell_across m c axis true) _ (ap (λ (x : Pair). x.left) (none_at axis true)))),
       no_terms m.shape.dims (λ axis. when_outside (cell_across m c axis false) (face_pair p m f c axis false).left + when_outside (cell_across m c axis true) (face_pair p m f c axis true).right)
-      (λ axis. both _ _ (none_outside (cell_across m c axis false) _ (ap (λ (x : Pair). x.left) (none_at axis false))) (none_outside (cell_across m c axis true) _ (ap (λ (x : Pair). x.right) (none_at axis true)))),
+          (λ axis. both _ _ (none_outside (cell_across m c axis false) _ (ap (λ (x : Pair). x.left) (none_at axis false))) (none_outside (cell_across m c axis true) _ (ap (λ (x : Pair). x.right) (none_at axis true)))),
     )
   where
     both : (a b : ℕ) → a ≡ 0 → b ≡ 0 → a + b ≡ 0

@@ -1,5 +1,5 @@
 -- Which letters are due.
-use Rattle.std.specs.Prelude.{◌≡◌, ℕ, ◌<◌, Contains, List, length, ◌↔◌}
+use Rattle.std.specs.Prelude.{◌≡◌, ◌<◌, Contains, List, length, ◌↔◌}
 use Rattle.morton_order.specs.declared.space.Loc.{Loc}
 use Rattle.block_tree.specs.Behind.{Behind, Names, behind, fine}
 use Rattle.mesh_rules.specs.Mesh.{IsMesh, Mesh, is_inner}

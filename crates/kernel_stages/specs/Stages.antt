@@ -1,6 +1,5 @@
 -- One stage of a mesh by its kernels.
-use Rattle.std.specs.Prelude.{◌≡◌, ℕ, ◌<◌, ◌≤◌, ◌&&◌, cond, List, length}
-use Rattle.problem_set.specs.Settings.{Settings}
+use Rattle.std.specs.Prelude.{◌≡◌, ℕ, ◌<◌, ◌&&◌, cond, List, length}
 use Rattle.problem_set.specs.SoundEntries.{AreFields}
 use Rattle.mesh_rules.specs.Mesh.{IsMesh, block_size, totals_on}
 use Rattle.mesh_rules.specs.Fields.{field_count, has_fluxes, is_sparse}

@@ -1,5 +1,5 @@
 -- The run's check is the cycle's.
-use Rattle.std.proofs.Common.{◌≡◌, ℕ, zero, suc, ◌+◌, ◌<◌, Bool, true, false, cond, ◌&&◌, ◌||◌, not, nat_le, List, length, refl, arith, ap, subst, sym, ◌∙◌}
+use Rattle.std.proofs.Common.{◌≡◌, ℕ, ◌+◌, ◌<◌, Bool, true, false, cond, ◌&&◌, not, nat_le, List, length, refl, ap, subst, sym, ◌∙◌}
 use Rattle.std.specs.Prelude.{replicate, sum}
 use Rattle.morton_order.specs.declared.space.Loc.{Loc}
 use Rattle.problem_set.specs.Settings.{Settings}
@@ -9,15 +9,14 @@ use Rattle.mesh_rules.specs.Fields.{field_count, is_sparse}
 use Rattle.mesh_rules.specs.Mask.{Mask, Slot, absent, checked_slot, has_above, kept_by_check, kept_by_reaction, slot_at, some_above, stays}
 use Rattle.mesh_rules.specs.Reaction.{react_mesh}
 use Rattle.mesh_rules.specs.Cycle.{Held, checked, leaf_drop_at_check, reacted_to, staged_to}
-use Rattle.run_laws.specs.MaskLaws.{FitsSlot}
-use Rattle.run_laws.proofs.CycleMeshes.{on_reacted, on_reacting}
-use Rattle.run_laws.proofs.Slots.{masks_stay, reacted_fits, slot_masked}
+use Rattle.run_laws.proofs.CycleMeshes.{on_reacted}
+use Rattle.run_laws.proofs.Slots.{masks_stay, slot_masked}
 use Rattle.block_layout.specs.Layouts.{interior_len}
 use Rattle.sparse_rounds.specs.Masked.{Run, idle_next, kept_checked, reacted_run}
 use Rattle.dense_mask.proofs.Leaves.{leaf_at as leaf_of}
-use Rattle.cycle_kernels.specs.Blocks.{leaf_at, may_lack}
+use Rattle.cycle_kernels.specs.Blocks.{leaf_at}
 use Rattle.kernel_stages.proofs.DueLetters.{other_default}
-use Rattle.masked_cycles.specs.Cycles.{CheckAgrees, ChecksAgree, Cycle, IsCycle, IsPlace, ReactionAgrees, cycle_mesh, kernels, start_of}
+use Rattle.masked_cycles.specs.Cycles.{ChecksAgree, ReactionAgrees, cycle_mesh, kernels, start_of}
 use Rattle.masked_cycles.proofs.Cuts.{IsCut, cut_long}
 use Rattle.masked_cycles.proofs.Staging.{cut_agrees, leaf_same, mask_fits}
 use Rattle.masked_cycles.proofs.Reacting.{above_is, reactions_agree, sparse_is}

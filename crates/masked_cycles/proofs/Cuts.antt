@@ -1,5 +1,5 @@
 -- What is made zero where a field is not kept, and what of it is dropped.
-use Rattle.std.proofs.Common.{◌≡◌, ℕ, zero, suc, ◌+◌, ◌<◌, Bool, true, false, cond, ◌&&◌, ◌||◌, not, List, [], ◌∷◌, map, length, refl, arith, ap, subst, sym, ◌∙◌}
+use Rattle.std.proofs.Common.{◌≡◌, ℕ, zero, suc, ◌+◌, ◌<◌, Bool, true, false, cond, ◌&&◌, ◌||◌, not, List, ◌∷◌, map, length, refl, ap, sym, ◌∙◌}
 use Rattle.std.specs.Prelude.{replicate, sum}
 use Rattle.std.specs.List.{range_with_len}
 use Rattle.std.proofs.lemmas.Bool.{false≢true}
@@ -7,7 +7,7 @@ use Rattle.std.proofs.lemmas.List.FromFn.{length-map-range_with_len}
 use Rattle.morton_order.specs.declared.space.Loc.{Loc}
 use Rattle.problem_set.specs.Settings.{Settings}
 use Rattle.mesh_rules.specs.Sums.{table}
-use Rattle.mesh_rules.specs.Mesh.{IsMesh, Mesh, block_of, block_size, cell_at, filled, leaf_number, leaf_total, stored, totals_on}
+use Rattle.mesh_rules.specs.Mesh.{IsMesh, Mesh, block_of, block_size, cell_at, filled, stored, totals_on}
 use Rattle.mesh_rules.specs.Fields.{field_count, is_sparse}
 use Rattle.mesh_rules.specs.Mask.{Mask, Slot, called, cut, leaf_dropped, slot_at, stays}
 use Rattle.mesh_laws.proofs.LeafSums.{block_of_cell}

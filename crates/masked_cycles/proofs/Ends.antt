@@ -1,20 +1,18 @@
 -- Lists of events end as the cycle does, and sums over all blocks are the cycle's.
-use Rattle.std.proofs.Common.{◌≡◌, ℕ, zero, suc, ◌+◌, ◌<◌, Some, List, [], ◌∷◌, length, refl, arith, ap, sym, ◌∙◌}
+use Rattle.std.proofs.Common.{◌≡◌, ℕ, suc, ◌+◌, ◌<◌, Some, List, [], ◌∷◌, length, refl, arith, ap, ◌∙◌}
 use Rattle.std.specs.List.{range_with_len, slice_index_or, sum_by}
 use Rattle.std.proofs.lemmas.List.Sums.{sum_by-cons}
 use Rattle.morton_order.specs.declared.space.Loc.{Loc}
 use Rattle.problem_set.specs.SettingsOf.{settings_of}
 use Rattle.mesh_rules.specs.declared.wish.Wish.{Wish}
 use Rattle.mesh_rules.specs.Due.{Exchange}
-use Rattle.mesh_rules.specs.Fields.{field_count}
 use Rattle.mesh_rules.specs.Sums.{sum_over}
 use Rattle.mesh_rules.specs.Cycle.{leaf_drop, leaf_flow}
 use Rattle.sparse_rounds.specs.Masked.{checked_run}
-use Rattle.sparse_rounds.specs.Laws.{reached}
 use Rattle.sparse_rounds.proofs.Ends.{ends_masked}
 use Rattle.dense_mask.proofs.Leaves.{origin}
 use Rattle.cycle_kernels.specs.Pairs.{FacePairs}
-use Rattle.masked_cycles.specs.Cycles.{AllSumsAgree, CheckAgrees, Cycle, IsCycle, kernels, start_of}
+use Rattle.masked_cycles.specs.Cycles.{AllSumsAgree, CheckAgrees, kernels, start_of}
 use Rattle.masked_cycles.specs.Ends.{CyclesEnd}
 use Rattle.masked_cycles.proofs.Starts.{starts_are_starts}
 use Rattle.masked_cycles.proofs.Checking.{checks_agree}

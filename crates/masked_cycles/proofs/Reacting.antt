@@ -1,7 +1,7 @@
 -- The run's reaction is the cycle's.
-use Rattle.std.proofs.Common.{◌≡◌, ℕ, zero, suc, ◌+◌, ◌<◌, Bool, true, false, cond, ◌&&◌, ◌||◌, not, nat_lt, List, [], ◌∷◌, map, length, refl, arith, ap, subst, sym, ◌∙◌, slice_index}
+use Rattle.std.proofs.Common.{◌≡◌, ℕ, ◌+◌, ◌<◌, Bool, true, cond, ◌&&◌, ◌||◌, nat_lt, List, [], ◌∷◌, map, length, refl, arith, ap, subst, sym, ◌∙◌, slice_index}
 use Rattle.std.specs.Prelude.{replicate, sum}
-use Rattle.std.specs.List.{list_any, range_with_len, slice_index_or}
+use Rattle.std.specs.List.{list_any, range_with_len}
 use Rattle.std.proofs.lemmas.Bool.{lt-ltb}
 use Rattle.morton_order.specs.declared.space.Loc.{Loc}
 use Rattle.package_fields.specs.Kernel.{Reacted}
@@ -11,22 +11,22 @@ use Rattle.mesh_rules.specs.Sums.{sum_to, table}
 use Rattle.mesh_rules.specs.Mesh.{Mesh, block_size, cell_at, stored, totals_on}
 use Rattle.mesh_rules.specs.Fields.{field_count, is_sparse}
 use Rattle.mesh_rules.specs.Mask.{Mask, Slot, called, has_above, kept_by_reaction, slot_at, some_above}
-use Rattle.mesh_rules.specs.Reaction.{cell_totals, leaf_made, leaf_used, react_mesh, reacted_cell}
+use Rattle.mesh_rules.specs.Reaction.{leaf_made, leaf_used, react_mesh, reacted_cell}
 use Rattle.mesh_rules.specs.Cycle.{Held, leaf_drop_by_reaction, reacted_to, staged_to}
 use Rattle.mesh_laws.proofs.Totals.{sum_to-same}
 use Rattle.run_laws.specs.MaskLaws.{FitsSlot}
-use Rattle.run_laws.proofs.CycleMeshes.{on_reacted, on_reacting, on_staged}
+use Rattle.run_laws.proofs.CycleMeshes.{on_reacting, on_staged}
 use Rattle.run_laws.proofs.Slots.{reacted_fits, slot_masked, staged_fits}
 use Rattle.block_layout.specs.Layouts.{interior_len}
 use Rattle.letter_laws.proofs.Boxes.{table_same}
-use Rattle.sparse_rounds.specs.Masked.{Run, kept_reacted, reacted_run, run_at}
+use Rattle.sparse_rounds.specs.Masked.{Run, kept_reacted, run_at}
 use Rattle.dense_mask.proofs.Leaves.{leaf_at as leaf_of, stored_on_leaf}
 use Rattle.cycle_kernels.specs.Blocks.{leaf_at, may_lack}
 use Rattle.cycle_kernels.specs.Cells as cells
 use Rattle.cycle_kernels.specs.Cells.{made_by, reacted_by, used_by}
 use Rattle.kernel_stages.proofs.DueLetters.{other_default}
 use Rattle.kernel_stages.proofs.Stages.{filled_totals}
-use Rattle.masked_cycles.specs.Cycles.{Cycle, IsCycle, IsPlace, ReactionAgrees, ReactionsAgree, StageAgrees, cycle_mesh, kernels, start_of}
+use Rattle.masked_cycles.specs.Cycles.{Cycle, IsCycle, IsPlace, ReactionsAgree, StageAgrees, cycle_mesh, kernels, start_of}
 use Rattle.masked_cycles.proofs.Cuts.{IsCut, called_idle, called_kept, cut_long, row_is}
 use Rattle.masked_cycles.proofs.Staging.{cut_agrees, leaf_same, mask_fits, size_same, stages_agree}
 

@@ -1,19 +1,18 @@
 -- The run's stages are the cycle's.
-use Rattle.std.proofs.Common.{◌≡◌, ℕ, zero, suc, ◌+◌, ◌<◌, Bool, true, false, cond, ◌&&◌, ◌||◌, not, List, length, refl, arith, ap, subst, sym, ◌∙◌}
+use Rattle.std.proofs.Common.{◌≡◌, ℕ, zero, suc, ◌+◌, ◌<◌, Bool, cond, ◌&&◌, ◌||◌, not, List, length, refl, ap, subst, sym, ◌∙◌}
 use Rattle.std.specs.Prelude.{replicate, sum}
 use Rattle.std.specs.List.{slice_index_or}
 use Rattle.morton_order.specs.declared.space.Loc.{Loc}
 use Rattle.problem_set.specs.Settings.{Settings}
 use Rattle.problem_set.specs.SettingsOf.{settings_of}
 use Rattle.mesh_rules.specs.declared.wish.Wish.{Wish}
-use Rattle.mesh_rules.specs.Sums.{sum_to}
 use Rattle.mesh_rules.specs.Mesh.{Mesh, block_size, totals_on}
 use Rattle.mesh_rules.specs.Due.{Exchange}
 use Rattle.mesh_rules.specs.Fields.{field_count, has_fluxes, is_sparse}
 use Rattle.mesh_rules.specs.Mask.{Mask, Slot, called, cut, exchange_calls, kept_by_exchange, leaf_dropped, slot_at}
 use Rattle.dense_mask.proofs.Leaves.{leaf_at as leaf_of, origin}
 use Rattle.mesh_rules.specs.Stage.{leaf_inflow, leaf_outflow, stage, staged}
-use Rattle.mesh_rules.specs.Cycle.{Held, State, leaf_drop_in_stage, staged_to}
+use Rattle.mesh_rules.specs.Cycle.{Held, leaf_drop_in_stage, staged_to}
 use Rattle.run_laws.specs.MaskLaws.{FitsSlot, MaskFits}
 use Rattle.run_laws.proofs.CycleMeshes.{on_stage, on_staged}
 use Rattle.run_laws.proofs.Slots.{slot_masked, staged_fits}
@@ -28,7 +27,7 @@ use Rattle.cycle_kernels.specs.Pairs.{FacePairs}
 use Rattle.kernel_stages.specs.Stages.{HasTotals, IsStage}
 use Rattle.kernel_stages.proofs.DueLetters.{other_default}
 use Rattle.kernel_stages.proofs.Stages.{stages_are_the_rules}
-use Rattle.masked_cycles.specs.Cycles.{Cycle, Holds, IsCycle, IsPlace, StageAgrees, StagesAgree, cycle_mesh, is_place, kernels, may_be_absent, start_of}
+use Rattle.masked_cycles.specs.Cycles.{Cycle, IsCycle, IsPlace, StageAgrees, StagesAgree, cycle_mesh, kernels, may_be_absent, start_of}
 use Rattle.masked_cycles.proofs.Cuts.{IsCut, called_idle, called_kept, cut_long, cut_totals, drop_is}
 use Rattle.masked_cycles.proofs.Starts.{place_is}
 use Rattle.masked_cycles.proofs.Trees.{kernels_same, mesh_with, same_staged, staged_ready}
@@ -70,9 +69,9 @@ pub cut_agrees : (c : Cycle) (m : Mesh) (mask : Mask) (b f : ℕ) (kept : Bool) 
     (cond kept totals (replicate (interior_len c.layout) 0) ≡ totals_on (cut (settings_of c.problem) mask m) b f) × (cond kept 0 (sum totals) ≡ leaf_dropped (settings_of c.problem) mask m f (leaf_of m b))
 cut_agrees c m mask b f kept totals is cells cutting e g = (
   ap (λ t. cond t totals (replicate (interior_len c.layout) 0)) e
-  ∙ ap (λ (v : List ℕ). cond (slot_at mask b f).kept v (replicate (interior_len c.layout) 0)) g
-  ∙ ap (λ n. cond (slot_at mask b f).kept (totals_on m b f) (replicate n 0)) (size_same c m is cells)
-  ∙ sym (cut_totals (settings_of c.problem) m mask b f cutting),
+      ∙ ap (λ (v : List ℕ). cond (slot_at mask b f).kept v (replicate (interior_len c.layout) 0)) g
+      ∙ ap (λ n. cond (slot_at mask b f).kept (totals_on m b f) (replicate n 0)) (size_same c m is cells)
+      ∙ sym (cut_totals (settings_of c.problem) m mask b f cutting),
   ap (λ t. cond t 0 (sum totals)) e ∙ ap (λ (v : List ℕ). cond (slot_at mask b f).kept 0 (sum v)) g ∙ drop_is (settings_of c.problem) m mask b f cutting,
 )
 

@@ -1,16 +1,16 @@
 -- The run starts as a masked serial run may.
-use Rattle.std.proofs.Common.{◌≡◌, ℕ, zero, suc, ◌+◌, ◌<◌, Bool, true, false, cond, ◌&&◌, not, nat_lt, List, [], ◌∷◌, All, length, refl, arith, ap, subst, sym, ◌∙◌, slice_index}
+use Rattle.std.proofs.Common.{◌≡◌, ℕ, suc, ◌<◌, Bool, true, false, cond, ◌&&◌, not, nat_lt, List, [], ◌∷◌, All, length, refl, arith, ap, sym, ◌∙◌, slice_index}
 use Rattle.std.specs.Prelude.{replicate}
-use Rattle.std.proofs.lemmas.Bool.{and_parts, false≢true, lt-ltb}
+use Rattle.std.proofs.lemmas.Bool.{and_parts, lt-ltb}
 use Rattle.std.proofs.lemmas.Bool.Decides.{nat_tests}
 use Rattle.std.proofs.lemmas.List.Elements.{All-get_or}
 use Rattle.problem_set.specs.SettingsOf.{settings_of}
-use Rattle.mesh_rules.specs.Mesh.{block_size, totals_on}
+use Rattle.mesh_rules.specs.Mesh.{totals_on}
 use Rattle.mesh_rules.specs.Fields.{field_count, is_sparse}
 use Rattle.mesh_rules.specs.Mask.{slot_at}
 use Rattle.block_layout.specs.Indices.{count_of}
 use Rattle.block_layout.specs.Layouts.{interior_len}
-use Rattle.masked_cycles.specs.Cycles.{Cycle, IsCycle, IsPlace, StartsAreStarts, is_place, may_be_absent, start_of}
+use Rattle.masked_cycles.specs.Cycles.{Cycle, IsPlace, StartsAreStarts, is_place, may_be_absent}
 
 less : (a b : ℕ) → nat_lt a b ≡ true → a < b
 less a b h = grind (arith, nat_tests)

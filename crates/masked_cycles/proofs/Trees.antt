@@ -4,14 +4,14 @@ use Rattle.morton_order.specs.declared.space.Loc.{Loc}
 use Rattle.package_fields.specs.Kernel.{Reacted}
 use Rattle.problem_set.specs.Settings.{Settings}
 use Rattle.problem_set.specs.SettingsOf.{settings_of}
-use Rattle.mesh_rules.specs.Mesh.{IsMesh, Mesh, block_of, block_size, filled, stored, totals_on}
+use Rattle.mesh_rules.specs.Mesh.{Mesh, block_of, block_size, filled, stored, totals_on}
 use Rattle.mesh_rules.specs.Fields.{field_count}
-use Rattle.mesh_rules.specs.Cycle.{Held, State, checked, reacted_to, staged_to}
-use Rattle.mesh_rules.specs.Mask.{Mask, cut, kept_by_exchange, kept_by_reaction, stays}
+use Rattle.mesh_rules.specs.Cycle.{State, reacted_to, staged_to}
+use Rattle.mesh_rules.specs.Mask.{Mask, kept_by_exchange, kept_by_reaction, stays}
 use Rattle.mesh_rules.specs.Reaction.{react_mesh, reacted_cell}
 use Rattle.mesh_rules.specs.Stage.{stage, staged}
 use Rattle.block_geometry.specs.Blocks.{IsLayoutOf}
-use Rattle.run_laws.proofs.CycleMeshes.{OnTreeOf, on_reacted, on_staged}
+use Rattle.run_laws.proofs.CycleMeshes.{on_staged}
 use Rattle.cycle_kernels.specs.Blocks.{CycleMesh}
 use Rattle.cycle_kernels.specs.Kernels.{kernels_of}
 use Rattle.kernel_stages.specs.Stages.{IsReady}

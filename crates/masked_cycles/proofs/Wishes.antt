@@ -1,5 +1,5 @@
 -- What each block wishes is the wish of the leaf.
-use Rattle.std.proofs.Common.{◌≡◌, ℕ, zero, suc, ◌+◌, ◌<◌, List, [], ◌∷◌, All, map, length, refl, arith, ap, subst, sym, ◌∙◌, slice_index}
+use Rattle.std.proofs.Common.{◌≡◌, ℕ, suc, ◌+◌, ◌<◌, List, [], ◌∷◌, map, length, refl, arith, ap, subst, sym, ◌∙◌, slice_index}
 use Rattle.std.specs.List.{enumerate_from, range_with_len, slice_index_or}
 use Rattle.std.proofs.lemmas.List.Elements.{All-get_or}
 use Rattle.morton_order.specs.declared.space.Loc.{Loc}
@@ -9,18 +9,15 @@ use Rattle.problem_set.specs.SoundEntries.{IsCriterion}
 use Rattle.problem_set.specs.declared.entries.Criterion.{Criterion}
 use Rattle.mesh_rules.specs.declared.wish.Wish.{Wish}
 use Rattle.block_tree.specs.declared.tags.Tag.{Tag}
-use Rattle.mesh_rules.specs.Sums.{table}
 use Rattle.mesh_rules.specs.Mesh.{Mesh, cell_at, stored}
 use Rattle.mesh_rules.specs.Fields.{field_count}
 use Rattle.mesh_rules.specs.Cycle.{reacted_to}
 use Rattle.mesh_rules.specs.Tags.{at_root, counted, measured_by, strongest, tag_of, wish, wish_by}
 use Rattle.run_laws.proofs.CycleMeshes.{on_reacted}
-use Rattle.block_layout.specs.Indices.{number_of}
-use Rattle.letter_laws.proofs.Boxes.{table_same}
 use Rattle.refine_tags.specs.Measures.{measured_in}
-use Rattle.dense_mask.proofs.Leaves.{leaf_at as leaf_of, origin, stored_on_leaf}
+use Rattle.dense_mask.proofs.Leaves.{origin, stored_on_leaf}
 use Rattle.dense_tags.proofs.Measured.{measured_is, own_address}
-use Rattle.sparse_rounds.specs.Masked.{Run, reacted_run}
+use Rattle.sparse_rounds.specs.Masked.{reacted_run}
 use Rattle.cycle_kernels.specs.Blocks.{leaf_at}
 use Rattle.cycle_kernels.specs.Cells.{criterion_wish}
 use Rattle.masked_cycles.specs.Cycles.{Cycle, IsCycle, WishesAgree, cycle_mesh, kernels, start_of}

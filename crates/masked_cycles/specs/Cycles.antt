@@ -1,8 +1,6 @@
 -- The masked serial run of the kernels of a mesh, and the cycle of the rules.
 use Rattle.std.specs.Prelude.{◌≡◌, ℕ, ◌+◌, ◌<◌, Bool, true, cond, ◌&&◌, not, nat_lt, List, length, replicate}
-use Rattle.morton_order.specs.declared.space.Loc.{Loc}
 use Rattle.package_fields.specs.Kernel.{Reacted}
-use Rattle.problem_set.specs.Settings.{Settings}
 use Rattle.problem_set.specs.SettingsOf.{settings_of}
 use Rattle.problem_set.specs.declared.problem.Problem.{Problem}
 use Rattle.mesh_rules.specs.declared.wish.Wish.{Wish}
