@@ -16,10 +16,9 @@ use Rattle.cycle_kernels.specs.Blocks as blocks
 use Rattle.cycle_kernels.specs.Kernels.{kernels_of}
 use Rattle.kernel_stages.specs.Letters.{IsDue}
 use Rattle.kernel_stages.proofs.Members.{In, any_in, in_any, in_range, range_in, same_tests}
-use Rattle.kernel_stages.proofs.DueLetters.{behind_leaf, due_ghost, ghost_due, in_named, named_in}
-use Rattle.kernel_stages.proofs.Senders.{IsSound}
-use Rattle.kernel_stages.proofs.Seen.{region_sent_to}
-use Rattle.kernel_stages.proofs.Ghosts.{is_due, letter_from}
+use Rattle.kernel_stages.proofs.DueLetters.{behind_leaf, due_ghost, ghost_due, in_named, is_due, named_in}
+use Rattle.cycle_kernel_laws.proofs.Sees.{letter_from}
+use Rattle.kernel_stages.proofs.Senders.{IsSound, region_sent_to}
 
 -- what comes across a side: it stands outside, or a leaf behind the side sends it
 pub record ComesFrom (w : CycleMesh) (b f axis : ℕ) (high : Bool) : Type 0 where
@@ -161,7 +160,7 @@ comes_called w b f parts sound few are h =
     from_leaf : (axis : ℕ) (high : Bool) → axis < w.mesh.shape.dims → ComesFrom w b f axis high → list_any (by_letter w b parts) (ghost_letters w.mesh) ≡ true
     from_leaf axis high used c =
         let x : Exchange = letter_from w b axis high c.at in
-        let (is, d) = is_due w b axis high c.at sound few used c.names in
+        let (is, d) = is_due w b axis high c.at sound.mesh few used c.names in
         in_any (by_letter w b parts) (ghost_letters w.mesh) x (due_ghost w.mesh sound.mesh x d)
         (ap (λ t. t && some_above w.settings.alloc_threshold (parts x)) (eq_self b) ∙ ap (some_above w.settings.alloc_threshold) (are x d) ∙ ap (λ (o : Loc). some_above w.settings.alloc_threshold (region w.mesh f o (leaf_at w b) axis high)) is ∙ c.above)
 

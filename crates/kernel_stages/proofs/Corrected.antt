@@ -41,19 +41,20 @@ use Rattle.letter_laws.proofs.FinerLevel.{below_is}
 use Rattle.letter_laws.proofs.Spans.{finer_kind}
 use Rattle.ghost_buffers.specs.declared.part.How.{How}
 use Rattle.dense_mask.proofs.Leaves.{number_of_leaf}
-use Rattle.sparse_rounds.specs.Row.{same_bool}
 use Rattle.cycle_kernels.specs.Blocks.{CycleMesh, leaf_at}
 use Rattle.cycle_kernels.specs.Letters.{how_by, no_part, part_by, part_covered, same_letter}
 use Rattle.cycle_kernels.specs.Lists.{less}
 use Rattle.cycle_kernels.specs.Pairs.{FacePairs, corrected_at, corrected_by, face_list, faces_corrected, first_sum, sum_given, sums_sent}
 use Rattle.kernel_stages.specs.Letters.{IsFluxDue}
 use Rattle.kernel_stages.proofs.Members.{In, in_any}
-use Rattle.kernel_stages.proofs.DueLetters.{behind_leaf, due_flux, flux_due, number_at}
-use Rattle.kernel_stages.proofs.Places.{LiesAlong, covers_lies, less_added, lies_covers, whole}
+use Rattle.kernel_stages.proofs.DueLetters.{behind_leaf, due_flux, flux_due, is_due, number_at}
+use Rattle.cycle_kernels.proofs.Letters.{letter_same}
+use Rattle.cycle_kernel_laws.proofs.Apart.{inside_of}
+use Rattle.cycle_kernel_laws.proofs.Given.{added_covered, less_again, less_within, three}
+use Rattle.cycle_kernel_laws.proofs.OwnPairs.{face_at}
+use Rattle.cycle_kernel_laws.proofs.Sees.{letter_from}
 use Rattle.kernel_stages.proofs.Senders.{IsSound, block_on, block_sound, side_sound}
 use Rattle.kernel_stages.proofs.Halves.{finer_beside}
-use Rattle.kernel_stages.proofs.Ghosts.{is_due, letter_from}
-use Rattle.kernel_stages.proofs.Fluxes.{face_read}
 
 -- pairs of all blocks, that are the mesh's own
 abbrev pub HaveOwn : CycleMesh → ℕ → (ℕ → FacePairs) → Type 0
@@ -63,22 +64,9 @@ HaveOwn w f pairs = (b : ℕ) → b < length w.mesh.leaves → HasOwnPairs (bloc
 abbrev pub part_from : CycleMesh → (ℕ → FacePairs) → Exchange → List ℕ
 part_from w pairs x = flux_part w.layout x.axis (not x.high) (pairs x.from).right (pairs x.from).left
 
-eq_self : (a : ℕ) → (a == a) ≡ true
-eq_self a = grind (arith, nat_tests)
-
-same_self : (x : Exchange) → same_letter x x ≡ true
-same_self x = four (x.from == x.from) (x.to == x.to) (x.axis == x.axis) (same_bool x.high x.high) (eq_self x.from) (eq_self x.to) (eq_self x.axis) (bool_self x.high)
-  where
-    bool_self : (b : Bool) → same_bool b b ≡ true
-    bool_self true = refl
-    bool_self false = refl
-
-    four : (a b c d : Bool) → a ≡ true → b ≡ true → c ≡ true → d ≡ true → (a && (b && (c && d))) ≡ true
-    four a b c d e f g h = ap (λ v. v && (b && (c && d))) e ∙ ap (λ v. v && (c && d)) f ∙ ap (λ v. v && d) g ∙ h
-
 pub sums_are : (w : CycleMesh) (x : Exchange) (pairs : FacePairs) → IsSound w → IsFluxDue w.mesh x → sums_sent w x pairs ≡ flux_part w.layout x.axis (not x.high) pairs.right pairs.left
 sums_are w x pairs sound d =
-    ap (λ t. cond t (flux_part w.layout x.axis (not x.high) pairs.right pairs.left) (no_part w x)) (in_any (same_letter x) (flux_letters w.mesh) x (due_flux w.mesh sound.mesh x d) (same_self x))
+    ap (λ t. cond t (flux_part w.layout x.axis (not x.high) pairs.right pairs.left) (no_part w x)) (in_any (same_letter x) (flux_letters w.mesh) x (due_flux w.mesh sound.mesh x d) (letter_same x))
 
 -- the finer sender of a flux letter is a child of the block across the receiver's side
 pub record FromChild (w : CycleMesh) (x : Exchange) (f : ℕ) : Type 0 where
@@ -131,16 +119,16 @@ summed_at w x part donor half used is = record {
       let l : Layout = w.layout in
       let low : List ℕ = (covered l x.axis x.high half).low in
       let h : x.axis < 3 = (let most = l.sound.most in omega arith) in
-      face_read l (λ _ i. sum_given w donor x part i) x.axis (added low u) used (covered_within l x.axis x.high half u h l.sound within)
+      face_at l (λ _ i. sum_given w donor x part i) x.axis (added low u) used h (covered_within l x.axis x.high half u h l.sound within)
       ∙ ap (λ v. slice_index part (first_sum l donor x.axis + number_of (coarse_extents l x.axis) (less (added low u) (covered l x.axis x.high v).low))) is
-      ∙ ap (λ (v : List ℕ). slice_index part (first_sum l donor x.axis + number_of (coarse_extents l x.axis) v)) (less_added low u);
+      ∙ ap (λ (v : List ℕ). slice_index part (first_sum l donor x.axis + number_of (coarse_extents l x.axis) v)) (less_again low u);
   others = λ n off. refl;
 }
 
 -- what a letter has for a face that it is about is the mesh's pair there
 pub record IsSum (w : CycleMesh) (x : Exchange) (f : ℕ) (part i : List ℕ) (axis : ℕ) (high : Bool) : Type 0 where
-  pub right : sum_given w Below x part (whole (with_along axis (slice_index i axis + cond high 1 0) i)) ≡ (pair_of (block_on w f x.to) i axis high).right
-  pub left : sum_given w Above x part (whole (with_along axis (slice_index i axis + cond high 1 0) i)) ≡ (pair_of (block_on w f x.to) i axis high).left
+  pub right : sum_given w Below x part (three (with_along axis (slice_index i axis + cond high 1 0) i)) ≡ (pair_of (block_on w f x.to) i axis high).right
+  pub left : sum_given w Above x part (three (with_along axis (slice_index i axis + cond high 1 0) i)) ≡ (pair_of (block_on w f x.to) i axis high).left
 
 have_own : (w : CycleMesh) (f b : ℕ) (pairs : ℕ → FacePairs) → IsSound w → HaveOwn w f pairs → HaveOwnPairs (block_on w f b) (λ o. (pairs (leaf_number w.mesh o)).right) (λ o. (pairs (leaf_number w.mesh o)).left)
 have_own w f b pairs sound have o leaf =
@@ -161,46 +149,38 @@ gains w x f pairs sound d have c =
     (subst (λ n. IsReplaced B x.axis x.high c.j (part_of B x.axis x.high (pairs n).right (pairs n).left) lists lists) (sym number) put)
 
 -- which face it is
-around : (l : Layout) (axis : ℕ) (high end : Bool) (j : ℕ) (i : List ℕ) (m : Mesh) → AtSide l axis high j → IsWithin l.cells i → covers (covered l axis high (half_of axis j)) (whole (with_along axis (slice_index i axis + cond end 1 0) i)) ≡ true → Found l m axis high j i end
+around : (l : Layout) (axis : ℕ) (high end : Bool) (j : ℕ) (i : List ℕ) (m : Mesh) → AtSide l axis high j → IsWithin l.cells i → covers (covered l axis high (half_of axis j)) (three (with_along axis (slice_index i axis + cond end 1 0) i)) ≡ true → Found l m axis high j i end
 around l axis high end j i m at within c =
     let r : Region = covered l axis high (half_of axis j) in
     let face : List ℕ = with_along axis (slice_index i axis + cond end 1 0) i in
-    let u : List ℕ = less (whole face) r.low in
-    let lies = covers_lies r (whole face) c in
-    found l m axis high j i end u at within
+    let u : List ℕ = less (three face) r.low in
+    let lies = inside_of r (three face) c in
+    found l m axis high j i end u at within (less_within r (three face) lies)
     (record {
-      along1 = below (slice_index r.low 0) (slice_index face 0) (slice_index r.extents 0) (lies 0 (omega arith));
-      along2 = below (slice_index r.low 1) (slice_index face 1) (slice_index r.extents 1) (lies 1 (omega arith));
-      along3 = below (slice_index r.low 2) (slice_index face 2) (slice_index r.extents 2) (lies 2 (omega arith));
-    })
-    (record {
-      along1 = back (slice_index r.low 0) (slice_index face 0) (slice_index r.extents 0) (lies 0 (omega arith));
-      along2 = back (slice_index r.low 1) (slice_index face 1) (slice_index r.extents 1) (lies 1 (omega arith));
-      along3 = back (slice_index r.low 2) (slice_index face 2) (slice_index r.extents 2) (lies 2 (omega arith));
+      along1 = back (slice_index r.low 0) (slice_index face 0) (lies 0 (omega arith)).least;
+      along2 = back (slice_index r.low 1) (slice_index face 1) (lies 1 (omega arith)).least;
+      along3 = back (slice_index r.low 2) (slice_index face 2) (lies 2 (omega arith)).least;
     })
   where
-    below : (a x e : ℕ) → (a ≤ x) × (x < a + e) → x - a < e
-    below a x e (h, k) = omega arith
-
-    back : (a x e : ℕ) → (a ≤ x) × (x < a + e) → x ≡ a + (x - a)
-    back a x e (h, k) = omega arith
+    back : (a x : ℕ) → a ≤ x → x ≡ a + (x - a)
+    back a x h = omega arith
 
 pub letter_sums : (w : CycleMesh) (x : Exchange) (f : ℕ) (pairs : ℕ → FacePairs) (i : List ℕ) (high : Bool) → IsSound w → IsFluxDue w.mesh x → HaveOwn w f pairs → IsWithin w.layout.cells i →
-    covers (faces_corrected w x) (whole (with_along x.axis (slice_index i x.axis + cond high 1 0) i)) ≡ true → IsSum w x f (part_from w pairs x) i x.axis high
+    covers (faces_corrected w x) (three (with_along x.axis (slice_index i x.axis + cond high 1 0) i)) ≡ true → IsSum w x f (part_from w pairs x) i x.axis high
 letter_sums w x f pairs i high sound d have within c =
     let l : Layout = w.layout in
     let B : FieldBlock = block_on w f x.to in
     let k = from_child w x f sound d in
     let h = three_axes B x.axis k.next.sound k.next.used in
     let at : AtSide l x.axis x.high k.j = record { fit = l.sound; used = k.next.used; child = subst (λ v. k.j < parts v) (sym sound.layout.dims) k.next.child; half = k.next.half } in
-    let here : Found l w.mesh x.axis x.high k.j i high = around l x.axis x.high high k.j i w.mesh at within (subst (λ v. covers (covered l x.axis x.high v) (whole (with_along x.axis (slice_index i x.axis + cond high 1 0) i)) ≡ true) k.covered_is c) in
+    let here : Found l w.mesh x.axis x.high k.j i high = around l x.axis x.high high k.j i w.mesh at within (subst (λ v. covers (covered l x.axis x.high v) (three (with_along x.axis (slice_index i x.axis + cond high 1 0) i)) ≡ true) k.covered_is c) in
     let child : child_at w.mesh (across_index w.mesh x.axis x.high 0 i) ≡ k.j = subst (λ (m : Mesh). child_at m (across_index m x.axis x.high 0 i) ≡ k.j) (shaped_is l w.mesh sound.layout) here.child in
     let cov : Covers B x.axis x.high k.j i = record { beside = record { sound = k.next.sound; used = k.next.used; within = within; at = here.at }; child = child } in
     let pair = (gains w x f pairs sound d have k).covered i cov in
     let face = face_within l x.axis x.high i within h in
     let one : IsSum w x f (part_from w pairs x) i x.axis x.high = record {
-      right = sym (face_read l (λ _ i. sum_given w Below x (part_from w pairs x) i) x.axis (with_along x.axis (slice_index i x.axis + cond x.high 1 0) i) k.next.used face) ∙ pair.0;
-      left = sym (face_read l (λ _ i. sum_given w Above x (part_from w pairs x) i) x.axis (with_along x.axis (slice_index i x.axis + cond x.high 1 0) i) k.next.used face) ∙ pair.1;
+      right = sym (face_at l (λ _ i. sum_given w Below x (part_from w pairs x) i) x.axis (with_along x.axis (slice_index i x.axis + cond x.high 1 0) i) k.next.used h face) ∙ pair.0;
+      left = sym (face_at l (λ _ i. sum_given w Above x (part_from w pairs x) i) x.axis (with_along x.axis (slice_index i x.axis + cond x.high 1 0) i) k.next.used h face) ∙ pair.1;
     } in
     subst (IsSum w x f (part_from w pairs x) i x.axis) (sym here.side_is) one
 
@@ -278,25 +258,14 @@ meets_finer b axis high i sound used w at finer = by (across b.mesh.shape b.leaf
         }
 
 -- and sends a letter about this face
-part_is_about : (l : Layout) (axis : ℕ) (high : Bool) (j : ℕ) (i : List ℕ) (m : Mesh) → InHalf l m axis high j i → covers (covered l axis high (half_of axis j)) (whole (with_along axis (slice_index i axis + cond high 1 0) i)) ≡ true
+part_is_about : (l : Layout) (axis : ℕ) (high : Bool) (j : ℕ) (i : List ℕ) (m : Mesh) → InHalf l m axis high j i → covers (covered l axis high (half_of axis j)) (three (with_along axis (slice_index i axis + cond high 1 0) i)) ≡ true
 part_is_about l axis high j i m s =
     let r : Region = covered l axis high (half_of axis j) in
     let u : List ℕ = in_part l axis i in
-    let within = in_part_within l axis i s.three s.fit in
-    subst (λ (v : List ℕ). covers r (whole v) ≡ true) (part_face l m axis high j i s)
-    (lies_covers r (added r.low u) (each_one r u (inside (slice_index r.low 0) (slice_index u 0) (slice_index r.extents 0) within.along1) (inside (slice_index r.low 1) (slice_index u 1) (slice_index r.extents 1) within.along2) (inside (slice_index r.low 2) (slice_index u 2) (slice_index r.extents 2) within.along3)))
-  where
-    inside : (a x e : ℕ) → x < e → (a ≤ a + x) × (a + x < a + e)
-    inside a x e h = (omega arith, omega arith)
-
-    each_one : (r : Region) (u : List ℕ) → LiesAlong r (added r.low u) 0 → LiesAlong r (added r.low u) 1 → LiesAlong r (added r.low u) 2 → (k : ℕ) → k < 3 → LiesAlong r (added r.low u) k
-    each_one r u a b c zero h = a
-    each_one r u a b c (suc zero) h = b
-    each_one r u a b c (suc (suc zero)) h = c
-    each_one r u a b c (suc (suc (suc k))) h = absurd (omega arith)
+    subst (λ (v : List ℕ). covers r (three v) ≡ true) (part_face l m axis high j i s) (added_covered r u (in_part_within l axis i s.three s.fit))
 
 finer_letter : (w : CycleMesh) (b f axis : ℕ) (high : Bool) (i : List ℕ) → IsSound w → b < length w.mesh.leaves → axis < w.layout.dims → IsWithin w.layout.cells i → is_finer_in w.mesh (cell_across w.mesh (cell_in w.mesh (leaf_at w b) i) axis high) ≡ true →
-    CoveringFlux w b axis (flux_letters w.mesh) (whole (with_along axis (slice_index i axis + cond high 1 0) i))
+    CoveringFlux w b axis (flux_letters w.mesh) (three (with_along axis (slice_index i axis + cond high 1 0) i))
 finer_letter w b f axis high i sound few used within finer =
     let l : Layout = w.layout in
     let m : Mesh = w.mesh in
@@ -312,7 +281,7 @@ finer_letter w b f axis high i sound few used within finer =
     let near = finer_beside B axis high os i (side_sound w f b axis sound few used') behind within at in
     let o : Loc = near.at in
     let x : Exchange = letter_from w b axis high o in
-    let (is, d) = is_due w b axis high o sound few used' (subst (λ (v : Behind). Names v o) (sym behind) near.among) in
+    let (is, d) = is_due w b axis high o sound.mesh few used' (subst (λ (v : Behind). Names v o) (sym behind) near.among) in
     let fd : IsFluxDue m x = record { due = d; finer = os; is = behind } in
     let half : InHalf l m axis high (child_number D o) i = record {
       fit = l.sound;
@@ -326,23 +295,23 @@ finer_letter w b f axis high i sound few used within finer =
       among = due_flux m sound.mesh x fd;
       to = refl;
       along = refl;
-      covers_it = subst (λ v. covers (covered l axis high v) (whole (with_along axis (slice_index i axis + cond high 1 0) i)) ≡ true)
+      covers_it = subst (λ v. covers (covered l axis high v) (three (with_along axis (slice_index i axis + cond high 1 0) i)) ≡ true)
           (sym (part_of_finer w x sound fd ∙ ap (λ (v : Loc). side_part axis (child_number D v)) is ∙ half_is_side axis (child_number D o)))
           (part_is_about l axis high (child_number D o) i m half);
     }
 
 -- all pairs
-listed_whole : (l : Layout) (own : List ℕ) (axis : ℕ) (i : List ℕ) → axis < 3 → listed l own axis (whole i) ≡ listed l own axis i
-listed_whole l own zero i h = refl
-listed_whole l own (suc zero) i h = refl
-listed_whole l own (suc (suc zero)) i h = refl
-listed_whole l own (suc (suc (suc a))) i h = absurd (omega arith)
+listed_three : (l : Layout) (own : List ℕ) (axis : ℕ) (i : List ℕ) → axis < 3 → listed l own axis (three i) ≡ listed l own axis i
+listed_three l own zero i h = refl
+listed_three l own (suc zero) i h = refl
+listed_three l own (suc (suc zero)) i h = refl
+listed_three l own (suc (suc (suc a))) i h = absurd (omega arith)
 
 pub corrected_pairs : (w : CycleMesh) (b f : ℕ) (pairs : ℕ → FacePairs) (parts : Exchange → List ℕ) → IsSound w → b < length w.mesh.leaves → HaveOwn w f pairs → ((x : Exchange) → IsFluxDue w.mesh x → x.to ≡ b → parts x ≡ part_from w pairs x) →
     HasPairs (block_on w f b) (corrected_by w b (pairs b) parts).right (corrected_by w b (pairs b) parts).left
 corrected_pairs w b f pairs parts sound few have is i axis high used within = (
-  face_read l (corrected_at w b Below (pairs b).right (flux_letters w.mesh) parts) axis face used there ∙ corrected_found w b Below (pairs b).right (flux_letters w.mesh) parts axis (whole face) pair.right all_right (giver_right (is_finer_in w.mesh (cell_across w.mesh (cell_in w.mesh (leaf_at w b) i) axis high)) refl),
-  face_read l (corrected_at w b Above (pairs b).left (flux_letters w.mesh) parts) axis face used there ∙ corrected_found w b Above (pairs b).left (flux_letters w.mesh) parts axis (whole face) pair.left all_left (giver_left (is_finer_in w.mesh (cell_across w.mesh (cell_in w.mesh (leaf_at w b) i) axis high)) refl),
+  face_at l (corrected_at w b Below (pairs b).right (flux_letters w.mesh) parts) axis face used h there ∙ corrected_found w b Below (pairs b).right (flux_letters w.mesh) parts axis (three face) pair.right all_right (giver_right (is_finer_in w.mesh (cell_across w.mesh (cell_in w.mesh (leaf_at w b) i) axis high)) refl),
+  face_at l (corrected_at w b Above (pairs b).left (flux_letters w.mesh) parts) axis face used h there ∙ corrected_found w b Above (pairs b).left (flux_letters w.mesh) parts axis (three face) pair.left all_left (giver_left (is_finer_in w.mesh (cell_across w.mesh (cell_in w.mesh (leaf_at w b) i) axis high)) refl),
 )
   where
     l : Layout
@@ -360,23 +329,23 @@ corrected_pairs w b f pairs parts sound few have is i axis high used within = (
     pair : Pair
     pair = pair_of (block_on w f b) i axis high
 
-    sums : (x : Exchange) → In (flux_letters w.mesh) x → x.to ≡ b → x.axis ≡ axis → covers (faces_corrected w x) (whole face) ≡ true → IsSum w x f (parts x) i axis high
+    sums : (x : Exchange) → In (flux_letters w.mesh) x → x.to ≡ b → x.axis ≡ axis → covers (faces_corrected w x) (three face) ≡ true → IsSum w x f (parts x) i axis high
     sums x among to along c =
         let d = flux_due w.mesh sound.mesh x among in
         subst (λ (v : List ℕ). IsSum w x f v i axis high) (sym (is x d to))
-        (subst (λ v. covers (faces_corrected w x) (whole (with_along v (slice_index i v + cond high 1 0) i)) ≡ true → IsSum w x f (part_from w pairs x) i v high) along
+        (subst (λ v. covers (faces_corrected w x) (three (with_along v (slice_index i v + cond high 1 0) i)) ≡ true → IsSum w x f (part_from w pairs x) i v high) along
         (λ k. letter_sums w x f pairs i high sound d have within k) c)
 
-    all_right : AllSum w b Below (flux_letters w.mesh) parts axis (whole face) pair.right
+    all_right : AllSum w b Below (flux_letters w.mesh) parts axis (three face) pair.right
     all_right x among to along c = (sums x among to along c).right ∙ ap (λ n. (pair_of (block_on w f n) i axis high).right) to
 
-    all_left : AllSum w b Above (flux_letters w.mesh) parts axis (whole face) pair.left
+    all_left : AllSum w b Above (flux_letters w.mesh) parts axis (three face) pair.left
     all_left x among to along c = (sums x among to along c).left ∙ ap (λ n. (pair_of (block_on w f n) i axis high).left) to
 
-    giver_right : (t : Bool) → is_finer_in w.mesh (cell_across w.mesh (cell_in w.mesh (leaf_at w b) i) axis high) ≡ t → (listed l (pairs b).right axis (whole face) ≡ pair.right) ⊎ CoveringFlux w b axis (flux_letters w.mesh) (whole face)
+    giver_right : (t : Bool) → is_finer_in w.mesh (cell_across w.mesh (cell_in w.mesh (leaf_at w b) i) axis high) ≡ t → (listed l (pairs b).right axis (three face) ≡ pair.right) ⊎ CoveringFlux w b axis (flux_letters w.mesh) (three face)
     giver_right true e = inr (finer_letter w b f axis high i sound few used within e)
-    giver_right false e = inl (listed_whole l (pairs b).right axis face h ∙ (have b few i axis high used within e).0)
+    giver_right false e = inl (listed_three l (pairs b).right axis face h ∙ (have b few i axis high used within e).0)
 
-    giver_left : (t : Bool) → is_finer_in w.mesh (cell_across w.mesh (cell_in w.mesh (leaf_at w b) i) axis high) ≡ t → (listed l (pairs b).left axis (whole face) ≡ pair.left) ⊎ CoveringFlux w b axis (flux_letters w.mesh) (whole face)
+    giver_left : (t : Bool) → is_finer_in w.mesh (cell_across w.mesh (cell_in w.mesh (leaf_at w b) i) axis high) ≡ t → (listed l (pairs b).left axis (three face) ≡ pair.left) ⊎ CoveringFlux w b axis (flux_letters w.mesh) (three face)
     giver_left true e = inr (finer_letter w b f axis high i sound few used within e)
-    giver_left false e = inl (listed_whole l (pairs b).left axis face h ∙ (have b few i axis high used within e).1)
+    giver_left false e = inl (listed_three l (pairs b).left axis face h ∙ (have b few i axis high used within e).1)

@@ -18,6 +18,8 @@ use Rattle.mesh_rules.specs.Due.{Exchange, all_letters, flux_letters, ghost_lett
 use Rattle.mesh_rules.specs.Due as due
 use Rattle.mesh_rules.specs.Regions.{leaves_in}
 use Rattle.dense_mask.proofs.Leaves.{leaf_at, number_of_leaf}
+use Rattle.cycle_kernels.specs.Blocks.{CycleMesh}
+use Rattle.cycle_kernel_laws.proofs.Sees.{letter_from}
 use Rattle.kernel_stages.specs.Letters.{FluxLettersAreDue, GhostLettersAreDue, IsDue, IsFluxDue}
 use Rattle.kernel_stages.proofs.Members.{In, IsAt, append_in, contains_in, flat_in, in_append, in_contains, in_flat, in_map, in_numbered, in_range, map_in, numbered_in, range_in}
 
@@ -229,3 +231,10 @@ due_flux m mesh x f =
 
 pub flux_letters_are_due : FluxLettersAreDue
 flux_letters_are_due m x mesh = (λ h. flux_due m mesh x (contains_in (flux_letters m) x h), λ d. in_contains (flux_letters m) x (due_flux m mesh x d))
+
+-- a letter from a leaf behind a side
+pub is_due : (w : CycleMesh) (b axis : ℕ) (high : Bool) (o : Loc) → IsMesh w.mesh → b < length w.mesh.leaves → axis < w.mesh.shape.dims → Names (behind_leaf w.mesh b axis high) o → (leaf_at w.mesh (leaf_number w.mesh o) ≡ o) × IsDue w.mesh (letter_from w b axis high o)
+is_due w b axis high o mesh few used names =
+    let leaf = leaf_with w.mesh mesh b few in
+    let (small, is) = number_at w.mesh mesh o (receiver w.mesh mesh (leaf_at w.mesh b) o axis high leaf used names) in
+    (is, record { from_few = small; to_few = few; used = used; names = subst (Names (behind_leaf w.mesh b axis high)) (sym is) names })

@@ -2,11 +2,7 @@ pub mod Members
 pub mod DueLetters
 pub mod Places
 pub mod Senders
-pub mod Beside
 pub mod Halves
-pub mod Seen
-pub mod Ghosts
-pub mod Fluxes
 pub mod Corrected
 pub mod Calls
 pub mod Still

@@ -31,7 +31,7 @@ use Rattle.letter_laws.proofs.Boxes.{table_same}
 use Rattle.transport_kernel.specs.Passed.{passed_at}
 use Rattle.transport_kernel.specs.Update.{gain_along, listed, loss_along, sum_axes}
 use Rattle.transport_kernel.specs.Update as kernel
-use Rattle.sparse_rounds.specs.Kernels.{ghosts_of, own_pairs, pairs_of}
+use Rattle.sparse_rounds.specs.Kernels.{own_pairs, pairs_of}
 use Rattle.sparse_rounds.specs.Masked as masked
 use Rattle.dense_mask.proofs.Leaves.{leaf_at as leaf_of, stored_on_leaf}
 use Rattle.dense_mesh.proofs.Tables.{table_by}
@@ -41,17 +41,16 @@ use Rattle.cycle_kernels.specs.Kernels.{kernels_of}
 use Rattle.cycle_kernels.specs.Letters.{region_sent}
 use Rattle.cycle_kernels.specs.Lists.{with_ghosts}
 use Rattle.cycle_kernels.specs.Pairs.{FacePairs, inflow_of, outflow_of, passed_face, sums_sent, updated_at, updated_by}
+use Rattle.cycle_kernel_laws.proofs.Given.{own_total}
+use Rattle.cycle_kernel_laws.proofs.OwnPairs.{are_own_pairs}
 use Rattle.kernel_stages.specs.Stages.{HasTotals, IsReady, IsStage, StagesAreTheRules}
-use Rattle.kernel_stages.proofs.Places.{own_read}
-use Rattle.kernel_stages.proofs.Senders.{IsSound, block_on, block_sound, has_own, region_is}
-use Rattle.kernel_stages.proofs.Ghosts.{sees_around}
-use Rattle.kernel_stages.proofs.Fluxes.{own_pairs_are}
+use Rattle.kernel_stages.proofs.Senders.{IsSound, block_on, block_sound, has_own, hold_mesh, region_is}
 use Rattle.kernel_stages.proofs.Corrected.{HaveOwn, corrected_pairs, sums_are}
 use Rattle.kernel_stages.proofs.Still.{no_terms, still_cell, still_flows}
 use Rattle.kernel_stages.proofs.Calls.{AreRegions, called_is}
 
 pub sound_of : (w : CycleMesh) → IsReady w → IsSound w
-sound_of w ready = record { mesh = ready.mesh; layout = ready.layout }
+sound_of w ready = record { mesh = ready.cycle.mesh; layout = ready.cycle.layout }
 
 -- letters have the regions of the mesh
 pub regions_are : (w : CycleMesh) (cells : ℕ → ℕ → List ℕ) (f : ℕ) → IsSound w → HasTotals w cells → f < field_count w.settings → AreRegions w f (λ x. region_sent w x (cells x.from f))
@@ -59,11 +58,7 @@ regions_are w cells f sound has some x d = region_is w x f (cells x.from f) soun
 
 -- the pairs of all blocks
 pub own_have : (w : CycleMesh) (cells : ℕ → ℕ → List ℕ) (f : ℕ) → IsReady w → HasTotals w cells → f < field_count w.settings → HaveOwn w f (λ b. own_pairs (kernels_of w) cells b f)
-own_have w cells f ready has some b few =
-    let sound = sound_of w ready in
-    let ghosts : List ℕ = ghosts_of (kernels_of w) cells b f in
-    own_pairs_are w f b (cells b f) ghosts sound ready.fields few some (has_own w f b (cells b f) ghosts sound few (has b f few some))
-    (sees_around w b f (λ x. region_sent w x (cells x.from f)) (cells b f) sound few (λ x d to. regions_are w cells f sound has some x d))
+own_have w cells f ready has some b few = are_own_pairs w w.mesh.totals f b (λ b. cells b f) ready.cycle (hold_mesh w cells f (sound_of w ready) has some) few
 
 pub pairs_have : (w : CycleMesh) (cells : ℕ → ℕ → List ℕ) (b f : ℕ) → IsReady w → HasTotals w cells → b < length w.mesh.leaves → f < field_count w.settings →
     HasPairs (block_on w f b) (pairs_of (kernels_of w) cells b f).right (pairs_of (kernels_of w) cells b f).left
@@ -96,7 +91,7 @@ updated_cell w cells b f k ready has few some small =
     let list : List ℕ = with_ghosts l (cells b f) [] in
     let pairs : FacePairs = pairs_of (kernels_of w) cells b f in
     let s = update_is_stage (block_on w f b) list pairs.right pairs.left i (block_sound w f b sound few) (has_own w f b (cells b f) [] sound few (has b f few some)) (pairs_have w cells b f ready has few some) within in
-    let own : slice_index list (own_place l i) ≡ slice_index (cells b f) k = own_read l (cells b f) [] i within ∙ ap (slice_index (cells b f)) (index_number l.cells k) in
+    let own : slice_index list (own_place l i) ≡ slice_index (cells b f) k = own_total l (cells b f) [] i within ∙ ap (slice_index (cells b f)) (index_number l.cells k) in
     ap (λ v. slice_index (cells b f) k + v - kernel.loss l.dims (listed l pairs.right) (listed l pairs.left) i) (axes_are l.dims (gain_along (listed l pairs.right) (listed l pairs.left) i))
     ∙ ap (λ v. slice_index (cells b f) k + gained l pairs.right pairs.left i - v) (axes_are l.dims (loss_along (listed l pairs.right) (listed l pairs.left) i))
     ∙ sym (ap (λ v. v + gained l pairs.right pairs.left i - lost l pairs.right pairs.left i) own)
@@ -107,7 +102,7 @@ updated_is : (w : CycleMesh) (cells : ℕ → ℕ → List ℕ) (b f : ℕ) → 
     updated_by w (cells b f) (pairs_of (kernels_of w) cells b f) ≡ totals_on (stage w.settings w.mesh) b f
 updated_is w cells b f ready has few some =
     table_same (interior_len w.layout) (updated_at w (cells b f) (pairs_of (kernels_of w) cells b f)) (λ k. staged w.settings w.mesh f (cell_at w.mesh (leaf_at w b) k)) (λ k small. updated_cell w cells b f k ready has few some small)
-    ∙ ap (λ (n : List ℕ). table (count_of n) (λ k. staged w.settings w.mesh f (cell_at w.mesh (leaf_at w b) k))) ready.layout.cells
+    ∙ ap (λ (n : List ℕ). table (count_of n) (λ k. staged w.settings w.mesh f (cell_at w.mesh (leaf_at w b) k))) ready.cycle.layout.cells
     ∙ sym (filled_totals w.mesh (field_count w.settings) f b (staged w.settings w.mesh) some few)
 
 -- what passes the faces of the domain that a block has
@@ -143,7 +138,7 @@ flows_are w b f pairs sound few has =
 -- a field without fluxes stays as it is
 same_totals : (w : CycleMesh) (b f : ℕ) → IsReady w → b < length w.mesh.leaves → f < field_count w.settings → totals_on w.mesh b f ≡ table (block_size w.mesh) (λ place. stored w.mesh f (cell_at w.mesh (leaf_at w b) place))
 same_totals w b f ready few some =
-    table_by (totals_on w.mesh b f) (block_size w.mesh) (λ place. stored w.mesh f (cell_at w.mesh (leaf_at w b) place)) 0 (ready.lists b f few some) (λ place inside. sym (stored_on_leaf w.mesh ready.mesh f b place few inside))
+    table_by (totals_on w.mesh b f) (block_size w.mesh) (λ place. stored w.mesh f (cell_at w.mesh (leaf_at w b) place)) 0 (ready.lists b f few some) (λ place inside. sym (stored_on_leaf w.mesh ready.cycle.mesh f b place few inside))
 
 still_totals : (w : CycleMesh) (b f : ℕ) → IsReady w → b < length w.mesh.leaves → f < field_count w.settings → has_fluxes w.settings f ≡ false → totals_on w.mesh b f ≡ totals_on (stage w.settings w.mesh) b f
 still_totals w b f ready few some none =

@@ -1,21 +1,18 @@
 -- One stage of a mesh by its kernels.
 use Rattle.std.specs.Prelude.{◌≡◌, ℕ, ◌<◌, ◌&&◌, cond, List, length}
-use Rattle.problem_set.specs.SoundEntries.{AreFields}
-use Rattle.mesh_rules.specs.Mesh.{IsMesh, block_size, totals_on}
+use Rattle.mesh_rules.specs.Mesh.{block_size, totals_on}
 use Rattle.mesh_rules.specs.Fields.{field_count, has_fluxes, is_sparse}
 use Rattle.mesh_rules.specs.Mask.{exchange_calls}
 use Rattle.mesh_rules.specs.Stage.{leaf_inflow, leaf_outflow, stage}
-use Rattle.block_geometry.specs.Blocks.{IsLayoutOf}
 use Rattle.sparse_rounds.specs.Kernels.{pairs_of}
 use Rattle.sparse_rounds.specs.Masked.{is_called, staged}
 use Rattle.cycle_kernels.specs.Blocks.{CycleMesh, leaf_at}
 use Rattle.cycle_kernels.specs.Kernels.{kernels_of}
+use Rattle.cycle_kernels.specs.Laws.{IsCycleMesh}
 
--- the mesh of a cycle: its settings are sound, the layout is that of its blocks, and it has a total for each cell of each field
+-- the mesh of a cycle that has a total for each cell of each field
 pub record IsReady (w : CycleMesh) : Type 0 where
-  pub mesh : IsMesh w.mesh
-  pub layout : IsLayoutOf w.mesh w.layout
-  pub fields : AreFields w.settings.fields w.settings.moves
+  pub cycle : IsCycleMesh w
   pub lists : (b f : ℕ) → b < length w.mesh.leaves → f < field_count w.settings → length (totals_on w.mesh b f) ≡ block_size w.mesh
 
 -- lists by block and field have the totals of the mesh on each of its leaves

@@ -7,3 +7,4 @@ pub mod Reacting
 pub mod Checking
 pub mod Wishes
 pub mod Ends
+pub mod States

@@ -4,7 +4,7 @@ use Rattle.morton_order.specs.declared.space.Loc.{Loc}
 use Rattle.package_fields.specs.Kernel.{Reacted}
 use Rattle.problem_set.specs.Settings.{Settings}
 use Rattle.problem_set.specs.SettingsOf.{settings_of}
-use Rattle.mesh_rules.specs.Mesh.{Mesh, block_of, block_size, filled, stored, totals_on}
+use Rattle.mesh_rules.specs.Mesh.{IsMesh, Mesh, block_of, block_size, filled, stored, totals_on}
 use Rattle.mesh_rules.specs.Fields.{field_count}
 use Rattle.mesh_rules.specs.Cycle.{State, reacted_to, staged_to}
 use Rattle.mesh_rules.specs.Mask.{Mask, kept_by_exchange, kept_by_reaction, stays}
@@ -14,6 +14,7 @@ use Rattle.block_geometry.specs.Blocks.{IsLayoutOf}
 use Rattle.run_laws.proofs.CycleMeshes.{on_staged}
 use Rattle.cycle_kernels.specs.Blocks.{CycleMesh}
 use Rattle.cycle_kernels.specs.Kernels.{kernels_of}
+use Rattle.cycle_kernels.specs.Laws.{IsCycleMesh}
 use Rattle.kernel_stages.specs.Stages.{IsReady}
 use Rattle.masked_cycles.specs.Cycles.{Cycle, IsCycle, cycle_mesh, kernels}
 use Rattle.masked_cycles.proofs.Retold.{retold_kernels}
@@ -68,13 +69,21 @@ totals_long c (suc n) b f is few some =
 pub layout_on : (c : Cycle) (m : Mesh) → IsCycle c → SameTree c.state.mesh m → IsLayoutOf m c.layout
 layout_on c m is e = subst (λ (v : Mesh). IsLayoutOf v c.layout) (sym e) (record { dims = is.layout.dims; cells = is.layout.cells })
 
+-- and is the mesh of a cycle
+pub is_cycle_mesh : (c : Cycle) (m : Mesh) → IsCycle c → IsMesh m → SameTree c.state.mesh m → IsCycleMesh (mesh_with c m)
+is_cycle_mesh c m is mesh e = record {
+  mesh = mesh;
+  layout = layout_on c m is e;
+  denominator = c.problem.stepping_sound.cycle_sound.least_denominator;
+  packs = c.problem.refining_sound.least_pack;
+  fields = c.problem.fields_sound;
+}
+
 pub staged_ready : (c : Cycle) (n : ℕ) → IsCycle c → IsReady (mesh_with c (staged_to (settings_of c.problem) c.state n).mesh)
 staged_ready c n is =
     let p = settings_of c.problem in
     let on = on_staged p c.state is.fit.mesh n in
     record {
-      mesh = on.mesh;
-      layout = layout_on c (staged_to p c.state n).mesh is (same_staged p c.state n);
-      fields = c.problem.fields_sound;
+      cycle = is_cycle_mesh c (staged_to p c.state n).mesh is on.mesh (same_staged p c.state n);
       lists = λ b f few some. totals_long c n b f is (subst (λ (v : List Loc). b < length v) on.leaves few) some;
     }

@@ -1,3 +1,4 @@
 pub mod Cycles
 pub mod Wishes
 pub mod Ends
+pub mod States

@@ -2,6 +2,7 @@
 
 ghost use Rattle.masked_cycles.specs.Cycles.{AllSumsAgree, ChecksAgree, ReactionsAgree, StagesAgree, StartsAreStarts, WishesAgree};
 ghost use Rattle.masked_cycles.specs.Ends.{CyclesEnd};
+ghost use Rattle.masked_cycles.specs.States.{LettersHold, StatesHold};
 ghost use Rattle.masked_cycles.specs.Wishes.{AllTagsFollow};
 
 /// The run starts as a masked serial run may.
@@ -36,4 +37,12 @@ pub fn sum_law()
 /// the rules leaves: totals, mask, buffers, wishes, drops and flows.
 pub fn cycle_law()
     ensures { CyclesEnd }
+{}
+
+/// After any legal list of events each buffer has, by how far its list has come, the totals, the look in its ghosts and
+/// the pairs of the mesh of its stage, and the mask and the sums of the cycle; and each letter has the region, or the sums
+/// of pairs, that the rules name.
+pub fn state_law()
+    ensures states { StatesHold }
+    ensures letters { LettersHold }
 {}
