@@ -10,8 +10,8 @@ pub fn letter_law()
     ensures fluxes { FluxLettersAreDue }
 {}
 
-/// What the kernels make of the totals of a mesh in a stage is the stage of the rules, leaf by leaf and field by field,
-/// with its flows through the faces of the domain and its calls.
+/// What the kernels make of the totals of a mesh in a stage is the stage of the rules, leaf by leaf and field by
+/// field, with its flows through the faces of the domain and its calls.
 pub fn stage_law()
     ensures { StagesAreTheRules }
 {}

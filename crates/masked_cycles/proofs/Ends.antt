@@ -15,12 +15,13 @@ use Rattle.cycle_kernels.specs.Pairs.{FacePairs}
 use Rattle.masked_cycles.specs.Cycles.{AllSumsAgree, CheckAgrees, kernels, start_of}
 use Rattle.masked_cycles.specs.Ends.{CyclesEnd}
 use Rattle.masked_cycles.proofs.Starts.{starts_are_starts}
+use Rattle.masked_cycles.proofs.Trees.{laws_of}
 use Rattle.masked_cycles.proofs.Checking.{checks_agree}
 use Rattle.masked_cycles.proofs.Wishes.{wishes_agree}
 
 pub cycles_end : CyclesEnd
-cycles_end c events b f is at laws history done =
-    let e = ends_masked Exchange (List ℕ) (List ℕ) FacePairs (List ℕ) Wish (kernels c) (start_of c) events laws (starts_are_starts c is) history done b f in
+cycles_end c events b f is at history done =
+    let e = ends_masked Exchange (List ℕ) (List ℕ) FacePairs (List ℕ) Wish (kernels c) (start_of c) events (laws_of c is) (starts_are_starts c is) history done b f in
     let a = checks_agree c b f is at in
     record {
       totals = e.run.cells ∙ a.holds.totals;

@@ -33,7 +33,7 @@ use Rattle.kernel_stages.proofs.Stages.{own_have, pairs_have, regions_are, sound
 use Rattle.masked_cycles.specs.Cycles.{Cycle, IsCycle, IsPlace, cycle_mesh, kernels, start_of}
 use Rattle.masked_cycles.specs.States.{LetterHolds, LettersHold, ReactionHolds, StageHolds, StatesHold, block_of_stage, held, mesh_of_stage}
 use Rattle.masked_cycles.proofs.Starts.{starts_are_starts}
-use Rattle.masked_cycles.proofs.Trees.{kernels_same, mesh_with, same_staged, staged_ready}
+use Rattle.masked_cycles.proofs.Trees.{kernels_same, laws_of, mesh_with, same_staged, staged_ready}
 use Rattle.masked_cycles.proofs.Staging.{leaf_same, stages_agree}
 use Rattle.masked_cycles.proofs.Reacting.{reactions_agree}
 
@@ -121,8 +121,8 @@ reaction_holds c l b f is at a =
     }
 
 pub states_hold : StatesHold
-states_hold c events b f is at laws history =
-    let a = stays_masked Exchange (List ℕ) (List ℕ) FacePairs (List ℕ) Wish (kernels c) (start_of c) events laws (starts_are_starts c is) history b f in
+states_hold c events b f is at history =
+    let a = stays_masked Exchange (List ℕ) (List ℕ) FacePairs (List ℕ) Wish (kernels c) (start_of c) events (laws_of c is) (starts_are_starts c is) history b f in
     let l = (reached (kernels c) (start_of c) events).local ((kernels c).owner b) in
     record {
       stages = λ n j g few most. stage_holds c n j l b f is at (a.stage n j g few most);
@@ -181,6 +181,6 @@ each_holds c [] is h = tt
 each_holds c (x ∷ xs) is h = (letter_holds c x.round x.of x.content is h.0, each_holds c xs is h.1)
 
 pub letters_hold : LettersHold
-letters_hold c events is laws history =
+letters_hold c events is history =
     each_holds c ((reached (kernels c) (start_of c) events).wire ++ (reached (kernels c) (start_of c) events).mail) is
-    (letters_stay_true Exchange (List ℕ) (List ℕ) FacePairs (List ℕ) Wish (kernels c) (start_of c) events laws (starts_are_starts c is) history)
+    (letters_stay_true Exchange (List ℕ) (List ℕ) FacePairs (List ℕ) Wish (kernels c) (start_of c) events (laws_of c is) (starts_are_starts c is) history)

@@ -12,9 +12,11 @@ use Rattle.mesh_rules.specs.Reaction.{react_mesh, reacted_cell}
 use Rattle.mesh_rules.specs.Stage.{stage, staged}
 use Rattle.block_geometry.specs.Blocks.{IsLayoutOf}
 use Rattle.run_laws.proofs.CycleMeshes.{on_staged}
+use Rattle.sparse_rounds.specs.Kernels.{AreKernels}
 use Rattle.cycle_kernels.specs.Blocks.{CycleMesh}
 use Rattle.cycle_kernels.specs.Kernels.{kernels_of}
 use Rattle.cycle_kernels.specs.Laws.{IsCycleMesh}
+use Rattle.cycle_kernel_laws.proofs.Kernels.{are_kernels}
 use Rattle.kernel_stages.specs.Stages.{IsReady}
 use Rattle.masked_cycles.specs.Cycles.{Cycle, IsCycle, cycle_mesh, kernels}
 use Rattle.masked_cycles.proofs.Retold.{retold_kernels}
@@ -87,3 +89,7 @@ staged_ready c n is =
       cycle = is_cycle_mesh c (staged_to p c.state n).mesh is on.mesh (same_staged p c.state n);
       lists = λ b f few some. totals_long c n b f is (subst (λ (v : List Loc). b < length v) on.leaves few) some;
     }
+
+-- so the kernels meet what the machine asks
+pub laws_of : (c : Cycle) → IsCycle c → AreKernels (kernels c)
+laws_of c is = are_kernels (cycle_mesh c) (is_cycle_mesh c c.state.mesh is is.fit.mesh.mesh refl)

@@ -7,7 +7,6 @@ use Rattle.mesh_rules.specs.Mask.{slot_at}
 use Rattle.mesh_rules.specs.Cycle.{checked, leaf_drop, leaf_flow, reacted_to}
 use Rattle.mesh_rules.specs.Tags.{wish}
 use Rattle.cycle_rounds.specs.Events.{Event, IsHistory, is_complete}
-use Rattle.sparse_rounds.specs.Kernels.{AreKernels}
 use Rattle.sparse_rounds.specs.Sparse.{Local, plan_of, read, sparse}
 use Rattle.sparse_rounds.specs.Laws.{reached}
 use Rattle.cycle_kernels.specs.Blocks.{leaf_at}
@@ -30,5 +29,5 @@ pub record EndsAsCycle (c : Cycle) (l : Local (List ℕ) (List ℕ) FacePairs Wi
 
 -- the list that a block belongs to, at the end of a list of events
 abbrev pub CyclesEnd : Type 0
-CyclesEnd = (c : Cycle) (events : List Event) (b f : ℕ) → IsCycle c → IsPlace c b f → AreKernels (kernels c) → IsHistory (plan_of (kernels c)) (sparse (kernels c) (start_of c)) events →
+CyclesEnd = (c : Cycle) (events : List Event) (b f : ℕ) → IsCycle c → IsPlace c b f → IsHistory (plan_of (kernels c)) (sparse (kernels c) (start_of c)) events →
     is_complete (plan_of (kernels c)) (reached (kernels c) (start_of c) events) ≡ true → EndsAsCycle c ((reached (kernels c) (start_of c) events).local ((kernels c).owner b)) b f

@@ -14,7 +14,6 @@ use Rattle.mesh_rules.specs.Cycle.{leaf_drop_in_stage, leaf_flow, reacted_to, st
 use Rattle.block_geometry.specs.Blocks.{FieldBlock}
 use Rattle.block_geometry.specs.Contents.{HasOwnPairs, HasPairs, SeesAround}
 use Rattle.cycle_rounds.specs.Events.{Each, Event, IsHistory, Letter}
-use Rattle.sparse_rounds.specs.Kernels.{AreKernels}
 use Rattle.sparse_rounds.specs.Sparse.{Buf, Local, plan_of, read, sparse}
 use Rattle.sparse_rounds.specs.Laws.{reached}
 use Rattle.cycle_kernels.specs.Blocks.{leaf_at}
@@ -64,7 +63,7 @@ pub record HoldsAfter (c : Cycle) (g : ℕ) (l : Local (List ℕ) (List ℕ) Fac
   pub reaction : 6 * c.problem.nstages < g → g < 6 * c.problem.nstages + 3 → ReactionHolds c l b f
 
 abbrev pub StatesHold : Type 0
-StatesHold = (c : Cycle) (events : List Event) (b f : ℕ) → IsCycle c → IsPlace c b f → AreKernels (kernels c) → IsHistory (plan_of (kernels c)) (sparse (kernels c) (start_of c)) events →
+StatesHold = (c : Cycle) (events : List Event) (b f : ℕ) → IsCycle c → IsPlace c b f → IsHistory (plan_of (kernels c)) (sparse (kernels c) (start_of c)) events →
     HoldsAfter c ((reached (kernels c) (start_of c) events).given ((kernels c).owner b)) ((reached (kernels c) (start_of c) events).local ((kernels c).owner b)) b f
 
 -- a letter of a round has the region, or the sums of pairs, that the rules name for the mesh of its stage
@@ -76,5 +75,5 @@ pub record LetterHolds (c : Cycle) (round : ℕ) (x : Exchange) (content : ℕ �
       content f ≡ map (λ (y : Pair). y.right) pairs ++ map (λ (y : Pair). y.left) pairs
 
 abbrev pub LettersHold : Type 0
-LettersHold = (c : Cycle) (events : List Event) → IsCycle c → AreKernels (kernels c) → IsHistory (plan_of (kernels c)) (sparse (kernels c) (start_of c)) events →
+LettersHold = (c : Cycle) (events : List Event) → IsCycle c → IsHistory (plan_of (kernels c)) (sparse (kernels c) (start_of c)) events →
     Each (λ (l : Letter Exchange (ℕ → List ℕ)). LetterHolds c l.round l.of l.content) ((reached (kernels c) (start_of c) events).wire ++ (reached (kernels c) (start_of c) events).mail)
