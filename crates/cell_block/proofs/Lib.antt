@@ -11,3 +11,4 @@ pub mod Stamped
 pub mod Layouts
 pub mod Buffers
 pub mod Openings
+pub mod Within

@@ -57,6 +57,13 @@ impl Shelves {
         self.shelves.len() as u32
     }
 
+    /// How many fields there are.
+    pub fn fields(&self) -> u32
+        ensures { result ≡ self.now.fields }
+    {
+        self.fields
+    }
+
     /// The partition of a leaf.
     pub fn list_of(&self, leaf: u32) -> u32
         requires { leaf < self.now.leaves }

@@ -88,6 +88,20 @@ impl MeshState {
         Ok(Arc::try_clone(&self.tree)?)
     }
 
+    /// How the cells and faces of a block lie in the lists of a buffer.
+    pub fn layout(&self) -> &Layout
+        ensures { HasLayout self.now result.now }
+    {
+        &self.layout
+    }
+
+    /// How many fields there are.
+    pub fn fields(&self) -> u32
+        ensures { result ≡ self.now.fields }
+    {
+        self.store.fields()
+    }
+
     /// How many partitions there are.
     pub fn partitions(&self) -> u32
         ensures { result ≡ list_count self.now }

@@ -63,6 +63,13 @@ impl Store {
         self.shelves.count()
     }
 
+    /// How many fields there are.
+    pub fn fields(&self) -> u32
+        ensures { result ≡ self.now.fields }
+    {
+        self.shelves.fields()
+    }
+
     /// The partition of a leaf.
     pub fn list_of(&self, leaf: u32) -> u32
         requires { leaf < self.now.leaves }
