@@ -62,5 +62,5 @@ UpdatesMayPass = (w : CycleMesh) (totals : List (List (List ℕ))) (f b : ℕ) (
     (rest right left : List ℕ) → HoldBounded w totals f lists → b < block_count w →
     HasPairs (block_with w totals f b) right left →
     ((i : List ℕ) → IsWithin w.layout.cells i →
-      staged w.settings (mesh_with w totals) f (cell_in (mesh_with w totals) (leaf_at w b) i) < 2 ^ 62) →
+    staged w.settings (mesh_with w totals) f (cell_in (mesh_with w totals) (leaf_at w b) i) < 2 ^ 62) →
     CanPass w.layout (listed w.layout right) (listed w.layout left) (with_ghosts w.layout (lists b) rest)

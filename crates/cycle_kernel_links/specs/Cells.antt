@@ -48,4 +48,4 @@ abbrev pub WishesAreThose : Type 0
 WishesAreThose = (w : CycleMesh) (b : ℕ) (c : Criterion) (totals : ℕ → List ℕ) (cells : List ℕ) →
     totals c.field ≡ own_totals w.layout cells →
     wish_by c (leaf_at w b).level (measured_in c.method w.layout (leaf_at w b).level
-      (total_at cells (box_of w.layout (interior w.layout).low))) ≡ criterion_wish w b totals c
+    (total_at cells (box_of w.layout (interior w.layout).low))) ≡ criterion_wish w b totals c

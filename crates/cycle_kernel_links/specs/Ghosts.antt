@@ -39,14 +39,14 @@ pub record IsCorner (w : CycleMesh) (b place : ℕ) : Type 0 where
   pub ghost : is_own w.layout place ≡ false
   pub given : (x : Exchange) → IsDueTo w b x → covers (region_given w x) (index_at w.layout place) ≡ false
   pub outside : (axis : ℕ) (high : Bool) → axis < w.mesh.shape.dims → is_domain_face w b axis high ≡ true →
-    covers (ghosts w.layout axis high) (index_at w.layout place) ≡ false
+      covers (ghosts w.layout axis high) (index_at w.layout place) ≡ false
 
 -- all ghosts of a block and field were written by the letters of a stage and by what stands outside; the rest of the
 -- list is zero but for the block's own totals
 pub record AreAllFilled (w : CycleMesh) (b f : ℕ) (parts : Exchange → List ℕ) (cells : List ℕ) : Type 0 where
   pub given : (x : Exchange) → IsDueTo w b x → IsUnfilledBy w x (parts x) cells
   pub outside : (axis : ℕ) (high : Bool) → axis < w.mesh.shape.dims → is_domain_face w b axis high ≡ true →
-    IsFilledOutside w b f axis high cells
+      IsFilledOutside w b f axis high cells
   pub corners : (place : ℕ) → place < len w.layout → IsCorner w b place → slice_index cells place ≡ 0
 
 -- they are those of the cycle
@@ -57,28 +57,28 @@ FilledAreGhosts = (w : CycleMesh) (b f : ℕ) (parts : Exchange → List ℕ) (c
 -- where one more letter is unfilled, or one more face of the domain is filled, what stood in the ghosts of others stays
 pub record GhostsStay : Type 0 where
   pub letters : (w : CycleMesh) (b : ℕ) (x y : Exchange) (part old new : List ℕ) → IsCycleMesh w → IsDueTo w b x →
-    IsDueTo w b y → ¬ (x ≡ y) → StaysOffRegion w.layout (region_given w y) old new → IsUnfilledBy w x part old →
-    IsUnfilledBy w x part new
+      IsDueTo w b y → ¬ (x ≡ y) → StaysOffRegion w.layout (region_given w y) old new → IsUnfilledBy w x part old →
+      IsUnfilledBy w x part new
   pub letter_beside_face : (w : CycleMesh) (b axis : ℕ) (high : Bool) (x : Exchange) (part old new : List ℕ) →
-    IsCycleMesh w → IsDueTo w b x → axis < w.mesh.shape.dims → is_domain_face w b axis high ≡ true →
-    StaysOffRegion w.layout (ghosts w.layout axis high) old new → IsUnfilledBy w x part old →
-    IsUnfilledBy w x part new
+      IsCycleMesh w → IsDueTo w b x → axis < w.mesh.shape.dims → is_domain_face w b axis high ≡ true →
+      StaysOffRegion w.layout (ghosts w.layout axis high) old new → IsUnfilledBy w x part old →
+      IsUnfilledBy w x part new
   pub face_beside_letter : (w : CycleMesh) (b f axis : ℕ) (high : Bool) (y : Exchange) (old new : List ℕ) →
-    IsCycleMesh w → IsDueTo w b y → axis < w.mesh.shape.dims → is_domain_face w b axis high ≡ true →
-    StaysOffRegion w.layout (region_given w y) old new → IsFilledOutside w b f axis high old →
-    IsFilledOutside w b f axis high new
+      IsCycleMesh w → IsDueTo w b y → axis < w.mesh.shape.dims → is_domain_face w b axis high ≡ true →
+      StaysOffRegion w.layout (region_given w y) old new → IsFilledOutside w b f axis high old →
+      IsFilledOutside w b f axis high new
   pub face_beside_face : (w : CycleMesh) (b f axis other : ℕ) (high end : Bool) (old new : List ℕ) → IsCycleMesh w →
-    axis < w.mesh.shape.dims → other < w.mesh.shape.dims → (axis ≡ other → high ≡ end → ⊥) →
-    StaysOffRegion w.layout (ghosts w.layout other end) old new → IsFilledOutside w b f axis high old →
-    IsFilledOutside w b f axis high new
+      axis < w.mesh.shape.dims → other < w.mesh.shape.dims → (axis ≡ other → high ≡ end → ⊥) →
+      StaysOffRegion w.layout (ghosts w.layout other end) old new → IsFilledOutside w b f axis high old →
+      IsFilledOutside w b f axis high new
   pub corner_beside_letter : (w : CycleMesh) (b place : ℕ) (y : Exchange) (old new : List ℕ) → IsCycleMesh w →
-    IsDueTo w b y → IsCorner w b place → StaysOffRegion w.layout (region_given w y) old new →
-    slice_index new place ≡ slice_index old place
+      IsDueTo w b y → IsCorner w b place → StaysOffRegion w.layout (region_given w y) old new →
+      slice_index new place ≡ slice_index old place
   pub corner_beside_face : (w : CycleMesh) (b place axis : ℕ) (high : Bool) (old new : List ℕ) → IsCycleMesh w →
-    axis < w.mesh.shape.dims → is_domain_face w b axis high ≡ true → IsCorner w b place →
-    StaysOffRegion w.layout (ghosts w.layout axis high) old new → slice_index new place ≡ slice_index old place
+      axis < w.mesh.shape.dims → is_domain_face w b axis high ≡ true → IsCorner w b place →
+      StaysOffRegion w.layout (ghosts w.layout axis high) old new → slice_index new place ≡ slice_index old place
   pub own_beside_letter : (w : CycleMesh) (b : ℕ) (y : Exchange) (old new : List ℕ) → IsCycleMesh w → IsDueTo w b y →
-    StaysOffRegion w.layout (region_given w y) old new → own_totals w.layout new ≡ own_totals w.layout old
+      StaysOffRegion w.layout (region_given w y) old new → own_totals w.layout new ≡ own_totals w.layout old
   pub own_beside_face : (w : CycleMesh) (axis : ℕ) (high : Bool) (old new : List ℕ) → IsCycleMesh w →
-    axis < w.mesh.shape.dims → StaysOffRegion w.layout (ghosts w.layout axis high) old new →
-    own_totals w.layout new ≡ own_totals w.layout old
+      axis < w.mesh.shape.dims → StaysOffRegion w.layout (ghosts w.layout axis high) old new →
+      own_totals w.layout new ≡ own_totals w.layout old

@@ -12,7 +12,7 @@ pub record AreGhosts (l : Layout) (ghosts : List ℕ) : Type 0 where
 -- a list of a block is its own totals with its ghosts, and comes apart into them
 pub record ListsComeApart : Type 0 where
   pub whole : (l : Layout) (cells : List ℕ) → length cells ≡ len l →
-    with_ghosts l (own_totals l cells) (ghosts_in l cells) ≡ cells
+      with_ghosts l (own_totals l cells) (ghosts_in l cells) ≡ cells
   pub own : (l : Layout) (own ghosts : List ℕ) → length own ≡ interior_len l →
-    own_totals l (with_ghosts l own ghosts) ≡ own
+      own_totals l (with_ghosts l own ghosts) ≡ own
   pub ghosts : (l : Layout) (own ghosts : List ℕ) → AreGhosts l ghosts → ghosts_in l (with_ghosts l own ghosts) ≡ ghosts

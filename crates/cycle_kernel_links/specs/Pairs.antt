@@ -29,9 +29,9 @@ use Rattle.cycle_kernels.specs.Pairs.{FacePairs, corrected_by, faces_corrected, 
 pub record AreRatesOn (w : CycleMesh) (f b : ℕ) (rates : LevelRates) : Type 0 where
   pub denominator : rates.denominator ≡ w.settings.denominator
   pub right : (axis : ℕ) → axis < w.layout.dims →
-    (along rates axis).right ≡ (rates_at w.settings f axis (leaf_at w b).level).right
+      (along rates axis).right ≡ (rates_at w.settings f axis (leaf_at w b).level).right
   pub left : (axis : ℕ) → axis < w.layout.dims →
-    (along rates axis).left ≡ (rates_at w.settings f axis (leaf_at w b).level).left
+      (along rates axis).left ≡ (rates_at w.settings f axis (leaf_at w b).level).left
 
 abbrev pub ClosesSides : CycleMesh → ℕ → List Bool → Type 0
 ClosesSides w b closed = (axis : ℕ) (high : Bool) → axis < w.layout.dims →
@@ -94,7 +94,7 @@ pub record AreAllReplaced (w : CycleMesh) (b : ℕ) (donor : Donor) (parts : Exc
   pub long : length new ≡ face_count w.layout
   pub given : (x : Exchange) → IsFluxDueTo w b x → IsReplacedBy w donor x (parts x) new
   pub others : (axis : ℕ) (i : List ℕ) → axis < w.layout.dims → IsWithin (face_extents w.layout axis) i →
-    IsOwnFace w b axis i → slice_index new (face_number w.layout axis i) ≡ slice_index old (face_number w.layout axis i)
+      IsOwnFace w b axis i → slice_index new (face_number w.layout axis i) ≡ slice_index old (face_number w.layout axis i)
 
 -- then they are the corrected pairs of the cycle
 abbrev pub ReplacedAreCorrected : Type 0
@@ -110,11 +110,11 @@ IsReplacement w donor x part old new = IsCorrected w.layout x.axis x.high (part_
 -- where one more letter is put in, the sums of the others stay, and so does what passes other faces
 pub record PairsStay : Type 0 where
   pub here : (w : CycleMesh) (donor : Donor) (x : Exchange) (part old new : List ℕ) →
-    IsReplacement w donor x part old new → IsReplacedBy w donor x part new
+      IsReplacement w donor x part old new → IsReplacedBy w donor x part new
   pub letters : (w : CycleMesh) (b : ℕ) (donor : Donor) (x y : Exchange) (part other old new : List ℕ) →
-    IsCycleMesh w → IsFluxDueTo w b x → IsFluxDueTo w b y → ¬ (x ≡ y) → IsReplacement w donor y other old new →
-    IsReplacedBy w donor x part old → IsReplacedBy w donor x part new
+      IsCycleMesh w → IsFluxDueTo w b x → IsFluxDueTo w b y → ¬ (x ≡ y) → IsReplacement w donor y other old new →
+      IsReplacedBy w donor x part old → IsReplacedBy w donor x part new
   pub others : (w : CycleMesh) (b : ℕ) (donor : Donor) (y : Exchange) (axis : ℕ) (other old new i : List ℕ) →
-    IsCycleMesh w → IsFluxDueTo w b y → axis < w.layout.dims → IsWithin (face_extents w.layout axis) i →
-    IsOwnFace w b axis i → IsReplacement w donor y other old new →
-    slice_index new (face_number w.layout axis i) ≡ slice_index old (face_number w.layout axis i)
+      IsCycleMesh w → IsFluxDueTo w b y → axis < w.layout.dims → IsWithin (face_extents w.layout axis) i →
+      IsOwnFace w b axis i → IsReplacement w donor y other old new →
+      slice_index new (face_number w.layout axis i) ≡ slice_index old (face_number w.layout axis i)

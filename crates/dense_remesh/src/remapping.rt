@@ -26,7 +26,12 @@ use problem_set::Problem;
 use std::alloc::Global;
 
 /// The totals of a leaf whose parent was one.
-pub fn child_shares(alloc: Global, layout: &Layout, at: &Loc, coarse: &[u64]) -> Result<Cells, NoMemory>
+pub fn child_shares(
+    alloc: Global,
+    layout: &Layout,
+    at: &Loc,
+    coarse: &[u64],
+) -> Result<Cells, NoMemory>
     requires { length coarse.now ≡ interior_len layout.now }
     ensures size { IfOk result (λ list. length list ≡ interior_len layout.now) }
     ensures shares { IfOk result (λ list. HasParentShares layout.now coarse.now

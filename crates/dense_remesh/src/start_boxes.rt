@@ -34,11 +34,7 @@ fn holds(area: &StartBox, cell: &[u64; 3]) -> bool
 }
 
 /// The boxes of a field.
-pub fn boxes_of(
-    alloc: Global,
-    boxes: &[StartBox],
-    field: u32,
-) -> Result<Vec<StartBox>, NoMemory>
+pub fn boxes_of(alloc: Global, boxes: &[StartBox], field: u32) -> Result<Vec<StartBox>, NoMemory>
     ensures { IfOk result (λ some. some.items ≡ filter (λ (b : StartBox). b.field == field) boxes.now) }
 {
     let some = boxes

@@ -21,7 +21,8 @@ pub use dump::{DumpWalk, dump_text};
 pub use file_names::{dump_file_name, history_file_name, is_dumped};
 pub use heading::push_heading;
 pub use history::{
-    HistoryEntry, history_text, push_field_row, push_history_heading, push_history_line, push_history_lines,
+    HistoryEntry, history_text, push_field_row, push_history_heading, push_history_line,
+    push_history_lines,
 };
 pub use mesh_num::NoMemory;
 pub use pieces::push_end;
