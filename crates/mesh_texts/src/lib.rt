@@ -4,6 +4,7 @@
 //!   gives it whole, and [`push_block`] gives one block. [`push_place`] and [`push_field`] give the lines of a block one by one.
 //! - [`push_history_lines`] gives the lines of a cycle in the history, and [`history_text`] the history from all its lines.
 //! - [`dump_file_name`], [`history_file_name`] and [`is_dumped`] say which files there are.
+//! - [`push_named`], [`push_line`] and the like append words, numbers and lines, for the texts of the crates above too.
 //!
 //! Functions whose names begin with `push` append to a text. Where they are refused for want of memory, it may end
 //! with a part of what was to be appended.
@@ -25,4 +26,6 @@ pub use history::{
     push_history_lines,
 };
 pub use mesh_num::NoMemory;
-pub use pieces::push_end;
+pub use pieces::{
+    push_byte, push_bytes, push_end, push_line, push_named, push_named_line, push_next, push_three,
+};

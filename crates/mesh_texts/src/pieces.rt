@@ -8,7 +8,7 @@ use itoa::Buffer;
 use mesh_num::NoMemory;
 
 /// Appends bytes.
-pub(crate) fn push_bytes(into: &mut Vec<u8>, bytes: &[u8]) -> Result<(), NoMemory>
+pub fn push_bytes(into: &mut Vec<u8>, bytes: &[u8]) -> Result<(), NoMemory>
     ensures { OnOk result (into.new.items ≡ into.old.items ++ bytes.now) }
 {
     into.extend_from_slice(bytes)?;
@@ -16,7 +16,7 @@ pub(crate) fn push_bytes(into: &mut Vec<u8>, bytes: &[u8]) -> Result<(), NoMemor
 }
 
 /// Appends one byte.
-pub(crate) fn push_byte(into: &mut Vec<u8>, byte: u8) -> Result<(), NoMemory>
+pub fn push_byte(into: &mut Vec<u8>, byte: u8) -> Result<(), NoMemory>
     ensures { OnOk result (into.new.items ≡ into.old.items ++ byte ∷ []) }
 {
     into.push(byte)?;
@@ -40,7 +40,7 @@ pub(crate) fn push_amount(into: &mut Vec<u8>, amount: u128) -> Result<(), NoMemo
 }
 
 /// Appends a word and a number.
-pub(crate) fn push_named(into: &mut Vec<u8>, word: &[u8], number: u64) -> Result<(), NoMemory>
+pub fn push_named(into: &mut Vec<u8>, word: &[u8], number: u64) -> Result<(), NoMemory>
     ensures { OnOk result (into.new.items ≡ into.old.items ++ named word.now number) }
 {
     push_bytes(into, word)?;
@@ -60,7 +60,7 @@ pub(crate) fn push_named_amount(
 }
 
 /// Appends a space and a number.
-pub(crate) fn push_next(into: &mut Vec<u8>, number: u64) -> Result<(), NoMemory>
+pub fn push_next(into: &mut Vec<u8>, number: u64) -> Result<(), NoMemory>
     ensures { OnOk result (into.new.items ≡ into.old.items ++ 32 ∷ decimal number) }
 {
     push_byte(into, b' ')?;
@@ -68,11 +68,7 @@ pub(crate) fn push_next(into: &mut Vec<u8>, number: u64) -> Result<(), NoMemory>
 }
 
 /// Appends a word and three numbers, one space between two.
-pub(crate) fn push_three(
-    into: &mut Vec<u8>,
-    word: &[u8],
-    numbers: &[u32; 3],
-) -> Result<(), NoMemory>
+pub fn push_three(into: &mut Vec<u8>, word: &[u8], numbers: &[u32; 3]) -> Result<(), NoMemory>
     ensures { OnOk result (into.new.items ≡ into.old.items
         ++ three word.now (slice_index numbers.now 0) (slice_index numbers.now 1) (slice_index numbers.now 2)) }
 {
@@ -82,7 +78,7 @@ pub(crate) fn push_three(
 }
 
 /// Appends a line.
-pub(crate) fn push_line(into: &mut Vec<u8>, text: &[u8]) -> Result<(), NoMemory>
+pub fn push_line(into: &mut Vec<u8>, text: &[u8]) -> Result<(), NoMemory>
     ensures { OnOk result (into.new.items ≡ into.old.items ++ line text.now) }
 {
     push_bytes(into, text)?;
@@ -90,7 +86,7 @@ pub(crate) fn push_line(into: &mut Vec<u8>, text: &[u8]) -> Result<(), NoMemory>
 }
 
 /// Appends a line of a word and a number.
-pub(crate) fn push_named_line(into: &mut Vec<u8>, word: &[u8], number: u64) -> Result<(), NoMemory>
+pub fn push_named_line(into: &mut Vec<u8>, word: &[u8], number: u64) -> Result<(), NoMemory>
     ensures { OnOk result (into.new.items ≡ into.old.items ++ line (named word.now number)) }
 {
     push_named(into, word, number)?;
