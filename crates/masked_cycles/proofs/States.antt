@@ -1,10 +1,9 @@
 -- Buffers and letters have what the meshes of the rules say.
-use Rattle.std.proofs.Common.{◌≡◌, ℕ, suc, ◌<◌, List, [], ◌∷◌, ◌++◌, map, length, ap, subst, sym, ◌∙◌}
+use Rattle.std.proofs.Common.{◌≡◌, ℕ, suc, ◌<◌, List, [], ◌∷◌, ◌++◌, length, ap, subst, sym, ◌∙◌}
 use Rattle.morton_order.specs.declared.space.Loc.{Loc}
 use Rattle.problem_set.specs.SettingsOf.{settings_of}
 use Rattle.mesh_rules.specs.declared.wish.Wish.{Wish}
 use Rattle.mesh_rules.specs.Due.{Exchange, flux_region}
-use Rattle.mesh_rules.specs.Faces.{Pair}
 use Rattle.mesh_rules.specs.Fields.{field_count}
 use Rattle.mesh_rules.specs.Mesh.{Mesh}
 use Rattle.mesh_rules.specs.Regions.{region}
@@ -31,7 +30,7 @@ use Rattle.kernel_stages.proofs.Senders.{block_on, block_sound, hold_mesh}
 use Rattle.kernel_stages.proofs.Corrected.{FromChild, from_child, sums_are}
 use Rattle.kernel_stages.proofs.Stages.{own_have, pairs_have, regions_are, sound_of}
 use Rattle.masked_cycles.specs.Cycles.{Cycle, IsCycle, IsPlace, cycle_mesh, kernels, start_of}
-use Rattle.masked_cycles.specs.States.{LetterHolds, LettersHold, ReactionHolds, StageHolds, StatesHold, block_of_stage, held, mesh_of_stage}
+use Rattle.masked_cycles.specs.States.{LetterHolds, LettersHold, ReactionHolds, StageHolds, StatesHold, block_of_stage, held, mesh_of_stage, right_then_left}
 use Rattle.masked_cycles.proofs.Starts.{starts_are_starts}
 use Rattle.masked_cycles.proofs.Trees.{kernels_same, laws_of, mesh_with, same_staged, staged_ready}
 use Rattle.masked_cycles.proofs.Staging.{leaf_same, stages_agree}
@@ -137,9 +136,6 @@ flux_in_stage : (c : Cycle) (n : ℕ) (x : Exchange) → IsFluxDue c.state.mesh 
 flux_in_stage c n x d =
     subst (λ (m : Mesh). IsFluxDue m x) (sym (same_staged (settings_of c.problem) c.state n))
     (record { due = record { from_few = d.due.from_few; to_few = d.due.to_few; used = d.due.used; names = d.due.names }; finer = d.finer; is = d.is })
-
-abbrev right_then_left : List Pair → List ℕ
-right_then_left pairs = map (λ (y : Pair). y.right) pairs ++ map (λ (y : Pair). y.left) pairs
 
 sums_in_stage : (c : Cycle) (n f : ℕ) (x : Exchange) → IsCycle c → f < field_count (settings_of c.problem) → IsFluxDue c.state.mesh x →
     sums_sent (stage_mesh c n) x (own_pairs (kernels_of (stage_mesh c n)) (run_mesh c n) x.from f) ≡ right_then_left (flux_region (settings_of c.problem) (mesh_of_stage c n) f (leaf_at (stage_mesh c n) x.from) (leaf_at (stage_mesh c n) x.to) x.axis x.high)
