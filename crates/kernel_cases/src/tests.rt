@@ -5,9 +5,10 @@ use problem_set::Rates;
 use std::test::Fail;
 
 /// Dimensions, coarse cells along each axis, their totals, and those of the fine cells in them.
-const SHARES: [(u32, [u32; 3], &[u64], &[u64]); 5] = [
+const SHARES: [(u32, [u32; 3], &[u64], &[u64]); 6] = [
     (1, [2, 1, 1], &[5, 0], &[3, 2, 0, 0]),
     (2, [1, 1, 1], &[7], &[2, 2, 2, 1]),
+    (2, [1, 1, 1], &[6], &[2, 2, 1, 1]),
     (2, [2, 1, 1], &[5, 2], &[2, 1, 1, 1, 1, 1, 0, 0]),
     (3, [1, 1, 1], &[10], &[2, 2, 1, 1, 1, 1, 1, 1]),
     (
