@@ -1,1 +1,2 @@
+mod SmallBlocks
 mod SmallSums

@@ -6,7 +6,7 @@ use Rattle.block_layout.specs.Indices.{count_of, number_of}
 use Rattle.mesh_rules.specs.Sums.{sum_to}
 use Rattle.restrict_prolong.specs.Refined.{at_index, factors, part_index, refined, sum_in}
 
-each_small : (list : List ℕ) (k : ℕ) → All (λ t. t < 2 ^ 32) list → slice_index list k < 2 ^ 32
+pub each_small : (list : List ℕ) (k : ℕ) → All (λ t. t < 2 ^ 32) list → slice_index list k < 2 ^ 32
 each_small list k small = elim (cases_lt k (length list)) [
   | inl less ↦ small k 0 less
   | inr most ↦ subst (λ (v : ℕ). v < 2 ^ 32) (sym (get_or-eq_default list 0 most)) (omega arith)
