@@ -4,8 +4,8 @@ ghost use Rattle.mesh_journals.specs.Laws.{JournalsEndByRules, JournalsHoldRules
 ghost use Rattle.mesh_journals.specs.Laws.{MeshEventsAreCounted, MeshesAreNeverStuck};
 
 /// A cycle of a mesh state that is fit is one of which all laws of journals hold. After each journal buffers and
-/// letters have what the rules say. A journal that is not complete can go on; a complete one has exactly so many events,
-/// and ends with what the rules leave of the cycle.
+/// letters have what the rules say. A journal that is not complete can go on; a complete one has exactly so many
+/// events, and ends with what the rules leave of the cycle.
 pub fn mesh_journal_law()
     ensures cycle { MeshCyclesAreCycles }
     ensures hold { JournalsHoldRules }
