@@ -5,8 +5,8 @@ use Rattle.std.proofs.lemmas.Bool.{cases_lt, cases_eq}
 use Rattle.std.proofs.lemmas.Bool.Decides.{nat_tests}
 use Rattle.morton_order.specs.declared.space.Loc.{Loc}
 use Rattle.morton_order.specs.Neighbours.{across}
-use Rattle.problem_set.specs.declared.words.FaceKind.{FaceKind}
-use Rattle.problem_set.specs.declared.words.FaceKind.TheVariants.{Periodic, Outflow, Reflecting, Inflow}
+use Rattle.mesh_settings.specs.declared.words.FaceKind.{FaceKind}
+use Rattle.mesh_settings.specs.declared.words.FaceKind.TheVariants.{Periodic, Outflow, Reflecting, Inflow}
 use Rattle.mesh_rules.specs.Mesh.{cells_along}
 use Rattle.mesh_rules.specs.Fields.{kind_at}
 use Rattle.mesh_rules.specs.Faces.{cell_across}

@@ -4,8 +4,8 @@ use Rattle.mesh_num.specs.Portion.{portion}
 use Rattle.morton_order.specs.declared.space.Loc.{Loc}
 use Rattle.morton_order.specs.Space.{child}
 use Rattle.block_tree.specs.Behind.{children_at}
-use Rattle.problem_set.specs.declared.words.FaceKind.{FaceKind}
-use Rattle.problem_set.specs.declared.words.FaceKind.TheVariants.{Periodic, Outflow, Reflecting, Inflow}
+use Rattle.mesh_settings.specs.declared.words.FaceKind.{FaceKind}
+use Rattle.mesh_settings.specs.declared.words.FaceKind.TheVariants.{Periodic, Outflow, Reflecting, Inflow}
 use Rattle.mesh_rules.specs.Fields.{FaceRates, kind_at, moves_at, rates_at}
 use Rattle.mesh_rules.specs.Faces.{Looks, Pair, cell_across, face_pair, face_pair_by, looks_at, own_pair, pair, pair_outside, reconstructed, sum_pairs}
 use Rattle.block_layout.specs.declared.layout.Layout.{Layout}

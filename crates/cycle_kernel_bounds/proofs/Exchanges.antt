@@ -14,8 +14,8 @@ use Rattle.morton_order.proofs.Crossing.{crossed_level}
 use Rattle.block_tree.specs.Behind.{Behind, Names, coarse, fine, outside, same}
 use Rattle.problem_set.specs.SoundEntries.{IsMoves, greatest_total}
 use Rattle.problem_set.specs.declared.problem_items.Moves.{Moves}
-use Rattle.problem_set.specs.declared.words.FaceKind.{FaceKind}
-use Rattle.problem_set.specs.declared.words.FaceKind.TheVariants.{Periodic, Outflow, Reflecting, Inflow}
+use Rattle.mesh_settings.specs.declared.words.FaceKind.{FaceKind}
+use Rattle.mesh_settings.specs.declared.words.FaceKind.TheVariants.{Periodic, Outflow, Reflecting, Inflow}
 use Rattle.mesh_rules.specs.Due.{Exchange, ghost_letters}
 use Rattle.mesh_rules.specs.Fields as fields
 use Rattle.mesh_rules.specs.Fields.{entering, has_ghosts, kind_at, moves_at, outside_by, side_number}

@@ -39,9 +39,13 @@ flag_of item = flag_named (without_spaces item)
 unfoldable pub flags_of : Text → Option (List Flag)
 flags_of text = each_some flag_of (items_of text)
 
--- the number of a field in its pool, 0 to 65,535
+-- the greatest number of a field in its pool
+abbrev pub greatest_id : ℕ
+greatest_id = 65535
+
+-- the number of a field in its pool
 abbrev pub id_of : Text → Option ℕ
-id_of item = option_and_then (λ n. if nat_le n 65535 then Some n else None) (number_of item)
+id_of item = option_and_then (λ n. if nat_le n greatest_id then Some n else None) (number_of item)
 
 -- numbers, each put at its place among those that rise before it; none where one is there twice
 abbrev pub rising_after : List ℕ → List ℕ → Option (List ℕ)

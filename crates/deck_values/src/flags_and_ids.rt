@@ -8,6 +8,9 @@ use package_fields::{Flag, Flags, Items};
 use std::alloc::{AllocError, Global};
 use std::collections::BTreeSet;
 
+/// The greatest number of a field in its pool.
+const GREATEST_ID: u64 = 65_535;
+
 /// The texts between commas.
 fn items_of(alloc: Global, text: &str) -> Result<Vec<&str>, AllocError>
     ensures { IfOk result (λ v. map (λ x. x.now) v.items ≡ items_of text.now) }
@@ -74,7 +77,7 @@ fn id_of(item: &str) -> Option<u32>
     ensures { result ≡ id_of item.now }
 {
     match number_of(item) {
-        Some(n) if n <= 65535 => Some(n as u32),
+        Some(n) if n <= GREATEST_ID => Some(n as u32),
         _ => None,
     }
 }

@@ -14,8 +14,8 @@ use Rattle.morton_order.proofs.Touching.{same_loc-is, same_loc-self}
 use Rattle.problem_set.specs.Settings.{Settings}
 use Rattle.problem_set.specs.SoundEntries.{IsMoves}
 use Rattle.problem_set.specs.declared.problem_items.Moves.{Moves}
-use Rattle.problem_set.specs.declared.words.FaceKind.{FaceKind}
-use Rattle.problem_set.specs.declared.words.FaceKind.TheVariants.{Periodic, Outflow, Reflecting, Inflow}
+use Rattle.mesh_settings.specs.declared.words.FaceKind.{FaceKind}
+use Rattle.mesh_settings.specs.declared.words.FaceKind.TheVariants.{Periodic, Outflow, Reflecting, Inflow}
 use Rattle.block_tree.specs.Blocks.{leaves}
 use Rattle.block_tree.specs.Behind.{coarse, fine, outside, same}
 use Rattle.mesh_rules.specs.Fields.{entering, has_ghosts, kind_at, moves_at, outside_by, side_number}

@@ -7,8 +7,8 @@ use Rattle.morton_order.specs.Space.{axis_of, same_loc}
 use Rattle.morton_order.specs.Neighbours.{moved}
 use Rattle.morton_order.proofs.Touching.{same_as, same_loc-is, same_loc-self}
 use Rattle.block_tree.proofs.Behinds.{fails}
-use Rattle.problem_set.specs.declared.words.Method.{Method}
-use Rattle.problem_set.specs.declared.words.Method.TheVariants.{Peak, Jump}
+use Rattle.mesh_settings.specs.declared.words.Method.{Method}
+use Rattle.mesh_settings.specs.declared.words.Method.TheVariants.{Peak, Jump}
 use Rattle.mesh_rules.specs.Sums.{greatest_to}
 use Rattle.mesh_rules.specs.Mesh.{Mesh, block_of, block_size, cell_at, cells_along, stored}
 use Rattle.mesh_rules.specs.Tags.{difference, measured_by, step_along, weight}

@@ -6,11 +6,11 @@ use Rattle.std.proofs.lemmas.List.Sums.{sum_by-cons}
 use Rattle.package_fields.specs.declared.field.Field.{Field}
 use Rattle.deck_generator.specs.declared.form.Form.{Form}
 use Rattle.deck_generator.specs.Generated.{first_cell}
-use Rattle.problem_set.specs.declared.words.FaceKind.{FaceKind}
-use Rattle.problem_set.specs.declared.words.FaceKind.TheVariants.{Periodic, Reflecting}
+use Rattle.mesh_settings.specs.declared.words.FaceKind.{FaceKind}
+use Rattle.mesh_settings.specs.declared.words.FaceKind.TheVariants.{Periodic, Reflecting}
 use Rattle.problem_set.specs.declared.problem_items.StartBox.{StartBox}
-use Rattle.problem_set.specs.Mesh.{levels_in}
-use Rattle.problem_set.specs.Grid.{dims_of}
+use Rattle.mesh_settings.specs.Mesh.{levels_in}
+use Rattle.mesh_settings.specs.Grid.{dims_of}
 use Rattle.problem_set.specs.Fitting.{sum_fits, rates_fit}
 use Rattle.problem_set.specs.Rates.{upwards, downwards, rate_sum, stage_inflow, box_total, bound}
 use Rattle.generated_decks.proofs.FormFacts.{IsUsual}

@@ -8,11 +8,11 @@ use Rattle.input_file.specs.Texts.{Text}
 use Rattle.input_file.specs.Blocks.{Blocks, keys_of, entry}
 use Rattle.deck_generator.specs.declared.form.Form.{Form}
 use Rattle.deck_generator.specs.Generated.{meshblock_settings, time_settings, whole_settings}
-use Rattle.problem_set.specs.declared.words.FaceKind.{FaceKind}
-use Rattle.problem_set.specs.declared.grid.Grid.{Grid}
-use Rattle.problem_set.specs.declared.stepping.Stepping.{Stepping}
-use Rattle.problem_set.specs.Grid.{meshblock, cells_along, cells_or_one, cells, shape_of, root_blocks, grid}
-use Rattle.problem_set.specs.Stepping.{time, sparse, whole, nlim, alloc_threshold, dealloc_threshold, dealloc_count, denominator, nstages, refine_every, dump_every, sparsity, cycle_settings, stepping}
+use Rattle.mesh_settings.specs.declared.words.FaceKind.{FaceKind}
+use Rattle.mesh_settings.specs.declared.grid.Grid.{Grid}
+use Rattle.mesh_settings.specs.declared.stepping.Stepping.{Stepping}
+use Rattle.mesh_settings.specs.Grid.{meshblock, cells_along, cells_or_one, cells, shape_of, root_blocks, grid}
+use Rattle.mesh_settings.specs.Stepping.{time, sparse, whole, nlim, alloc_threshold, dealloc_threshold, dealloc_count, denominator, nstages, refine_every, dump_every, sparsity, cycle_settings, stepping}
 use Rattle.generated_decks.proofs.FormFacts.{IsUsual}
 use Rattle.generated_decks.proofs.NumberTexts.{number_of-decimal}
 use Rattle.generated_decks.proofs.Rows.{then-ok, entry-at, number-there, number-absent}

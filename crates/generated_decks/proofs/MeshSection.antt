@@ -9,13 +9,13 @@ use Rattle.input_file.specs.Texts.{Text}
 use Rattle.input_file.specs.Blocks.{Blocks, keys_of}
 use Rattle.deck_generator.specs.declared.form.Form.{Form}
 use Rattle.deck_generator.specs.Generated.{mesh_settings}
-use Rattle.problem_set.specs.declared.words.Mode.{Mode}
-use Rattle.problem_set.specs.declared.words.Mode.TheVariants.{Plain, Adaptive}
-use Rattle.problem_set.specs.declared.words.FaceKind.{FaceKind}
-use Rattle.problem_set.specs.declared.words.FaceKind.TheVariants.{Periodic, Outflow, Reflecting, Inflow}
-use Rattle.problem_set.specs.declared.mesh.Mesh.{Mesh}
-use Rattle.problem_set.specs.Mesh.{mesh, size1, size2, size3, refinement, numlevel, derefine_count, is_pack_size, pack_size, face, face_pair, size, levels_in, refining, faces, mesh_keys}
-use Rattle.problem_set.specs.Words.{mode_named, face_kind_named}
+use Rattle.mesh_settings.specs.declared.words.Mode.{Mode}
+use Rattle.mesh_settings.specs.declared.words.Mode.TheVariants.{Plain, Adaptive}
+use Rattle.mesh_settings.specs.declared.words.FaceKind.{FaceKind}
+use Rattle.mesh_settings.specs.declared.words.FaceKind.TheVariants.{Periodic, Outflow, Reflecting, Inflow}
+use Rattle.mesh_settings.specs.declared.mesh.Mesh.{Mesh}
+use Rattle.mesh_settings.specs.Mesh.{mesh, size1, size2, size3, refinement, numlevel, derefine_count, is_pack_size, pack_size, face, face_pair, size, levels_in, refining, faces, mesh_keys}
+use Rattle.mesh_settings.specs.Words.{mode_named, face_kind_named}
 use Rattle.generated_decks.proofs.FormFacts.{IsUsual}
 use Rattle.generated_decks.proofs.NumberTexts.{number_of-decimal, signed_of-decimal}
 use Rattle.generated_decks.proofs.Rows.{then-ok, entry-at, value-there, value-absent, number-there, one-or-there, one-absent, signed-there}

@@ -11,16 +11,16 @@ use Rattle.deck_values.specs.BlockNames.{names_of, names_within}
 use Rattle.deck_generator.specs.declared.form.Form.{Form}
 use Rattle.deck_generator.specs.Forms.{small, large_form}
 use Rattle.deck_generator.specs.Generated.{drawn, box_name, speed_text, generated_of, generated}
-use Rattle.problem_set.specs.declared.block_kinds.BlockNames.{BlockNames}
+use Rattle.mesh_settings.specs.declared.block_kinds.BlockNames.{BlockNames}
 use Rattle.problem_set.specs.declared.problem_items.StartBox.{StartBox}
 use Rattle.problem_set.specs.declared.problem_items.Criterion.{Criterion}
 use Rattle.problem_set.specs.declared.repeated_blocks.CountedBlocks.{CountedBlocks}
 use Rattle.problem_set.specs.declared.repeated_blocks.RepeatedBlocks.{RepeatedBlocks}
 use Rattle.problem_set.specs.Settings.{Settings}
-use Rattle.problem_set.specs.Mesh.{levels_in, mesh_keys}
-use Rattle.problem_set.specs.Grid.{dims_of, grid}
-use Rattle.problem_set.specs.Stepping.{stepping}
-use Rattle.problem_set.specs.BlockKinds.{statics, boxes, reactions, criteria, block_names}
+use Rattle.mesh_settings.specs.Mesh.{levels_in, mesh_keys}
+use Rattle.mesh_settings.specs.Grid.{dims_of, grid}
+use Rattle.mesh_settings.specs.Stepping.{stepping}
+use Rattle.mesh_settings.specs.BlockKinds.{statics, boxes, reactions, criteria, block_names}
 use Rattle.problem_set.specs.FieldBlocks.{field_block}
 use Rattle.problem_set.specs.Packages.{fields}
 use Rattle.problem_set.specs.EntryReaders.{start_box, reaction, criterion}

@@ -7,8 +7,8 @@ use Rattle.morton_order.specs.Space.{child}
 use Rattle.block_tree.specs.Behind.{children_at}
 use Rattle.problem_set.specs.Rates.{downwards, upwards, velocity}
 use Rattle.problem_set.specs.Settings.{Settings}
-use Rattle.problem_set.specs.declared.words.FaceKind.{FaceKind}
-use Rattle.problem_set.specs.declared.words.FaceKind.TheVariants.{Periodic, Outflow, Reflecting, Inflow}
+use Rattle.mesh_settings.specs.declared.words.FaceKind.{FaceKind}
+use Rattle.mesh_settings.specs.declared.words.FaceKind.TheVariants.{Periodic, Outflow, Reflecting, Inflow}
 use Rattle.mesh_rules.specs.Sums.{sum_over, sum_to}
 use Rattle.mesh_rules.specs.Mesh.{Mesh, block_of, is_inner, stored}
 use Rattle.mesh_rules.specs.Fields.{FaceRates, has_fluxes, kind_at, moves_at, rates_at}

@@ -6,8 +6,8 @@ use Rattle.morton_order.specs.Neighbours.{across}
 use Rattle.block_tree.specs.Behind.{children_at}
 use Rattle.mesh_num.specs.Portion.{portion}
 use Rattle.problem_set.specs.Settings.{Settings}
-use Rattle.problem_set.specs.declared.words.FaceKind.{FaceKind}
-use Rattle.problem_set.specs.declared.words.FaceKind.TheVariants.{Periodic, Outflow, Reflecting, Inflow}
+use Rattle.mesh_settings.specs.declared.words.FaceKind.{FaceKind}
+use Rattle.mesh_settings.specs.declared.words.FaceKind.TheVariants.{Periodic, Outflow, Reflecting, Inflow}
 use Rattle.mesh_rules.specs.Sums.{sum_over}
 use Rattle.mesh_rules.specs.Mesh.{Mesh, block_of, cell_lattice, is_inner}
 use Rattle.mesh_rules.specs.Look.{look}

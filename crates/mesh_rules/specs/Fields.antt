@@ -7,8 +7,8 @@ use Rattle.package_fields.specs.Flags.{has}
 use Rattle.problem_set.specs.Settings.{Settings}
 use Rattle.problem_set.specs.Rates.{left_rate, right_rate}
 use Rattle.problem_set.specs.declared.problem_items.Moves.{Moves}
-use Rattle.problem_set.specs.declared.words.FaceKind.{FaceKind}
-use Rattle.problem_set.specs.declared.words.FaceKind.TheVariants.{Periodic, Outflow, Reflecting, Inflow}
+use Rattle.mesh_settings.specs.declared.words.FaceKind.{FaceKind}
+use Rattle.mesh_settings.specs.declared.words.FaceKind.TheVariants.{Periodic, Outflow, Reflecting, Inflow}
 
 -- how many fields there are
 abbrev pub field_count : Settings → ℕ

@@ -7,8 +7,8 @@ use Rattle.package_fields.specs.declared.flow.Flow.{Flow}
 use Rattle.package_fields.specs.Flow.{no_flow}
 use Rattle.package_fields.specs.Kernel.{Reacted}
 use Rattle.problem_set.specs.Settings.{Settings}
-use Rattle.problem_set.specs.declared.words.Mode.{Mode}
-use Rattle.problem_set.specs.declared.words.Mode.TheVariants.{Plain, Fixed, Adaptive}
+use Rattle.mesh_settings.specs.declared.words.Mode.{Mode}
+use Rattle.mesh_settings.specs.declared.words.Mode.TheVariants.{Plain, Fixed, Adaptive}
 use Rattle.mesh_rules.specs.Sums.{table}
 use Rattle.mesh_rules.specs.Fields.{field_count}
 use Rattle.mesh_rules.specs.Remesh.{carried_counters, next_tree, remap}

@@ -9,8 +9,8 @@ use Rattle.block_tree.specs.declared.tags.Tag.TheVariants.{Merge}
 use Rattle.block_tree.specs.declared.tags.Tag.TheVariants as tag
 use Rattle.problem_set.specs.Settings.{Settings}
 use Rattle.problem_set.specs.declared.problem_items.Criterion.{Criterion}
-use Rattle.problem_set.specs.declared.words.Method.{Method}
-use Rattle.problem_set.specs.declared.words.Method.TheVariants.{Peak, Jump}
+use Rattle.mesh_settings.specs.declared.words.Method.{Method}
+use Rattle.mesh_settings.specs.declared.words.Method.TheVariants.{Peak, Jump}
 use Rattle.mesh_rules.specs.declared.wish.Wish.{Wish}
 use Rattle.mesh_rules.specs.declared.wish.Wish.TheVariants.{Refine, Same, Derefine}
 use Rattle.mesh_rules.specs.Sums.{greatest_to}

@@ -1,9 +1,9 @@
 -- Worked examples of what is kept where and dropped, of reactions and of trees that change, with their numbers written out.
 use Rattle.std.specs.Prelude.{◌≡◌, ℕ, pos, true, List, [], ◌∷◌, codes}
 use Rattle.problem_set.specs.Settings.{Settings}
-use Rattle.problem_set.specs.declared.words.Mode.TheVariants.{Adaptive}
-use Rattle.problem_set.specs.declared.words.Method.{Method}
-use Rattle.problem_set.specs.declared.words.Method.TheVariants.{Peak, Jump}
+use Rattle.mesh_settings.specs.declared.words.Mode.TheVariants.{Adaptive}
+use Rattle.mesh_settings.specs.declared.words.Method.{Method}
+use Rattle.mesh_settings.specs.declared.words.Method.TheVariants.{Peak, Jump}
 use Rattle.problem_set.specs.declared.problem_items.Criterion.{Criterion}
 use Rattle.mesh_rules.specs.Mask.{Slot, absent, slot_at}
 use Rattle.mesh_rules.specs.Run.{Outcome, running, too_many_at, too_many_at_start}

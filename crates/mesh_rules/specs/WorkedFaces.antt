@@ -1,8 +1,8 @@
 -- Worked examples of faces and stages, with their numbers written out.
 use Rattle.std.specs.Prelude.{◌≡◌, ℕ, ◌-◌, pos, true, false, List, [], ◌∷◌, ◌++◌, codes, map, replicate, length}
 use Rattle.problem_set.specs.Settings.{Settings}
-use Rattle.problem_set.specs.declared.words.Mode.TheVariants.{Fixed}
-use Rattle.problem_set.specs.declared.words.FaceKind.TheVariants.{Periodic, Outflow, Inflow}
+use Rattle.mesh_settings.specs.declared.words.Mode.TheVariants.{Fixed}
+use Rattle.mesh_settings.specs.declared.words.FaceKind.TheVariants.{Periodic, Outflow, Inflow}
 use Rattle.mesh_rules.specs.Look.{look}
 use Rattle.mesh_rules.specs.Fields.{outside}
 use Rattle.mesh_rules.specs.Faces.{face_pair, limited}

@@ -2,7 +2,7 @@
 use Rattle.std.specs.Prelude.{◌≡◌, true, false, [], ◌∷◌, codes, map}
 use Rattle.mesh_num.specs.Share.{share}
 use Rattle.problem_set.specs.Settings.{Settings}
-use Rattle.problem_set.specs.declared.words.Mode.TheVariants.{Fixed}
+use Rattle.mesh_settings.specs.declared.words.Mode.TheVariants.{Fixed}
 use Rattle.mesh_rules.specs.Sums.{table}
 use Rattle.mesh_rules.specs.Look.{look}
 use Rattle.mesh_rules.specs.Opening.{opening_mesh}

@@ -1,4 +1,3 @@
-pub mod GridLemmas
 pub mod Prefix
 pub mod PackageLemmas
 pub mod KeptFlagLemmas

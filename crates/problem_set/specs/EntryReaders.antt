@@ -1,46 +1,19 @@
 -- The static boxes, opening boxes, reactions and criteria of a deck.
-use Rattle.std.specs.Prelude.{◌==◌, ◌-◌, nat_le, not, ℕ, List, [], ◌∷◌, Option, Some, None, Result, Ok, slice_index, position, codes}
-use Rattle.std.specs.Str.{bytes_eq}
+use Rattle.std.specs.Prelude.{◌-◌, ℕ, List, Some, None, Result, Ok, codes}
 use Rattle.input_file.specs.Texts.{Text}
 use Rattle.input_file.specs.Blocks.{Blocks}
 use Rattle.package_fields.specs.declared.field.Field.{Field}
-use Rattle.problem_set.specs.declared.words.Method.{Method}
+use Rattle.mesh_settings.specs.declared.words.Method.{Method}
 use Rattle.deck_values.specs.declared.fault.ProblemFault.{ProblemFault}
-use Rattle.deck_values.specs.declared.fault.ProblemFault.TheVariants.{BadValue}
 use Rattle.problem_set.specs.declared.problem_items.StaticAt.{StaticAt}
 use Rattle.problem_set.specs.declared.problem_items.StartBox.{StartBox}
 use Rattle.problem_set.specs.declared.problem_items.Reaction.{Reaction}
 use Rattle.problem_set.specs.declared.problem_items.Criterion.{Criterion}
-use Rattle.problem_set.specs.declared.mesh_part.Part.{Part}
-use Rattle.deck_values.specs.Reading.{◌>>=◌, only_if}
+use Rattle.deck_values.specs.Reading.{◌>>=◌}
 use Rattle.deck_values.specs.BlockReader.{value_at, number}
-use Rattle.problem_set.specs.Words.{method_named}
-use Rattle.problem_set.specs.Limits.{greatest_factor, greatest_total}
-
--- the first and the last cell of a part along an axis of so many cells: by default all cells
-unfoldable pub span_at : Blocks → Text → Text → Text → ℕ → Result (ℕ × ℕ) ProblemFault
-span_at d block low high cells = do
-  l ← number d block low 0 (cells - 1) (Some 0)
-  h ← number d block high l (cells - 1) (Some (cells - 1))
-  Ok (l, h)
-
--- a part of the mesh
-unfoldable pub part : Blocks → List ℕ → Text → Result Part ProblemFault
-part d size block = do
-  x1 ← span_at d block (codes "lo1") (codes "hi1") (slice_index size 0)
-  x2 ← span_at d block (codes "lo2") (codes "hi2") (slice_index size 1)
-  x3 ← span_at d block (codes "lo3") (codes "hi3") (slice_index size 2)
-  Ok (record { lo = x1.0 ∷ x2.0 ∷ x3.0 ∷ []; hi = x1.1 ∷ x2.1 ∷ x3.1 ∷ [] })
-
--- the number of the field with a label
-abbrev pub field_labelled : List Field → Text → Option ℕ
-field_labelled fields label = position (λ f. bytes_eq label f.label) fields
-
-unfoldable pub label : Blocks → List Field → Text → Text → Result ℕ ProblemFault
-label d fields block key = value_at (field_labelled fields) d block key None
-
-unfoldable pub amount : Blocks → Text → Text → Result ℕ ProblemFault
-amount d block key = number d block key 0 greatest_total None
+use Rattle.mesh_settings.specs.Words.{method_named}
+use Rattle.mesh_settings.specs.MeshPart.{part, label, other_label, amount, lower_amount}
+use Rattle.mesh_settings.specs.Limits.{greatest_factor}
 
 -- a static box
 unfoldable pub static_at : Blocks → List ℕ → ℕ → Text → Result StaticAt ProblemFault
@@ -57,12 +30,6 @@ start_box d size fields block = do
   a ← amount d block (codes "amount")
   Ok (record { field = field; lo = p.lo; hi = p.hi; amount = a })
 
--- the second field of a reaction, which is another than the first
-unfoldable pub other_label : Blocks → List Field → Text → Text → ℕ → Result ℕ ProblemFault
-other_label d fields block key first = do
-  second ← label d fields block key
-  only_if (not (second == first)) second (BadValue block key)
-
 -- a reaction
 unfoldable pub reaction : Blocks → List Field → Text → Result Reaction ProblemFault
 reaction d fields block = do
@@ -74,12 +41,6 @@ reaction d fields block = do
 
 unfoldable pub method : Blocks → Text → Result Method ProblemFault
 method d block = value_at method_named d block (codes "method") None
-
--- the tolerance below which blocks are merged, at most that above which they are refined
-unfoldable pub lower_amount : Blocks → Text → Text → ℕ → Result ℕ ProblemFault
-lower_amount d block key most = do
-  a ← amount d block key
-  only_if (nat_le a most) a (BadValue block key)
 
 -- both tolerances
 unfoldable pub tolerances : Blocks → Text → Result (ℕ × ℕ) ProblemFault

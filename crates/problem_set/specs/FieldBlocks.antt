@@ -17,7 +17,7 @@ use Rattle.deck_values.specs.Reading.{◌>>=◌, or_fault}
 use Rattle.deck_values.specs.Numbers.{is_name}
 use Rattle.deck_values.specs.BlockReader.{value_at, number, signed, is_within}
 use Rattle.deck_values.specs.FlagsAndIds.{flags_of, ids_of}
-use Rattle.problem_set.specs.Limits.{greatest_factor, greatest_total}
+use Rattle.mesh_settings.specs.Limits.{greatest_factor, greatest_total}
 
 -- a name as it is, where it is one
 abbrev pub name_form : Text → Option Text

@@ -1,11 +1,4 @@
-pub mod Limits
-pub mod Words
-pub mod Mesh
-pub mod Grid
 pub mod Kept
-pub mod Stepping
-pub mod BlockKinds
-pub mod Sound
 pub mod Rates
 pub mod Settings
 pub mod SoundEntries

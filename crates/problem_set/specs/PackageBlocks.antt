@@ -1,16 +1,17 @@
 -- For the code: the field blocks of each package, chained in deck order.
-use Rattle.std.specs.Prelude.{◌≡◌, ◌≤◌, ℕ, suc, List, [], drop, length, slice_get, Option, Some, None}
+use Rattle.std.specs.Prelude.{◌≡◌, ◌≤◌, ◌+◌, ℕ, suc, List, [], drop, length, slice_get, Option, Some, None}
 use Rattle.std.specs.BTreeMap.{BTreeMap, get_by}
 use Rattle.std.specs.Cmp.Lexicographic.{slice_cmp}
 use Rattle.std.specs.Ordering.{nat_cmp}
 use denote.Ref.{Bor}
 use Rattle.input_file.specs.Texts.{Text}
 use Rattle.problem_set.specs.declared.field_blocks.FieldBlock.{FieldBlock}
+use Rattle.mesh_settings.specs.Limits.{most_fields}
 use Rattle.problem_set.specs.Packages.{blocks_of}
 
--- of a registry's 256 fields and one more that is refused, as many are gathered
+-- of a registry's fields and one more that is refused, as many are gathered
 abbrev pub most_gathered : ℕ
-most_gathered = 257
+most_gathered = most_fields + 1
 
 -- the blocks of a package from a place on; none where there is no place
 abbrev pub rest_from : List FieldBlock → Text → Option ℕ → List FieldBlock

@@ -4,15 +4,15 @@ use Rattle.std.specs.List.{zip}
 use Rattle.input_file.specs.Blocks.{Blocks}
 use Rattle.deck_values.specs.declared.fault.ProblemFault.{ProblemFault}
 use Rattle.deck_values.specs.declared.fault.ProblemFault.TheVariants.{Bound}
-use Rattle.problem_set.specs.declared.mesh.Mesh.{Mesh}
-use Rattle.problem_set.specs.declared.grid.Grid.{Grid}
-use Rattle.problem_set.specs.declared.stepping.Stepping.{Stepping}
+use Rattle.mesh_settings.specs.declared.mesh.Mesh.{Mesh}
+use Rattle.mesh_settings.specs.declared.grid.Grid.{Grid}
+use Rattle.mesh_settings.specs.declared.stepping.Stepping.{Stepping}
 use Rattle.problem_set.specs.declared.repeated_blocks.RepeatedBlocks.{RepeatedBlocks}
 use Rattle.deck_values.specs.Reading.{◌>>=◌, only_if}
 use Rattle.problem_set.specs.Settings.{Settings}
-use Rattle.problem_set.specs.Mesh.{mesh_keys}
-use Rattle.problem_set.specs.Grid.{grid}
-use Rattle.problem_set.specs.Stepping.{stepping}
+use Rattle.mesh_settings.specs.Mesh.{mesh_keys}
+use Rattle.mesh_settings.specs.Grid.{grid}
+use Rattle.mesh_settings.specs.Stepping.{stepping}
 use Rattle.problem_set.specs.RepeatedBlocks.{repeated_blocks}
 use Rattle.problem_set.specs.Fitting.{rates_fit}
 use Rattle.problem_set.specs.Rates.{bound}

@@ -1,5 +1,5 @@
 -- The rates of a field, and what they add up to.
-use Rattle.std.specs.Prelude.{◌+◌, ◌*◌, ◌-◌, ◌/◌, ◌&&◌, nat_lt, if◌then◌else◌, ℕ, zero, suc, ℤ, pos, negsuc, Bool, true, false, length, List, sum_by, slice_index}
+use Rattle.std.specs.Prelude.{◌+◌, ◌*◌, ◌-◌, ◌/◌, ◌&&◌, nat_lt, if◌then◌else◌, ℕ, zero, suc, ℤ, pos, negsuc, length, List, sum_by, slice_index}
 use Rattle.std.specs.List.{slice_index_or, range_with_len, zip}
 use Rattle.mesh_num.specs.Rate.{rate}
 use Rattle.package_fields.specs.declared.field.Field.{Field}
@@ -7,8 +7,9 @@ use Rattle.package_fields.specs.declared.flag.Flag.TheVariants.{FillGhost, WithF
 use Rattle.package_fields.specs.Flags.{has}
 use Rattle.problem_set.specs.declared.problem_items.Moves.{Moves}
 use Rattle.problem_set.specs.declared.problem_items.StartBox.{StartBox}
-use Rattle.problem_set.specs.declared.words.FaceKind.{FaceKind}
-use Rattle.problem_set.specs.declared.words.FaceKind.TheVariants.{Periodic, Outflow, Reflecting, Inflow}
+use Rattle.mesh_settings.specs.declared.words.FaceKind.{FaceKind}
+use Rattle.mesh_settings.specs.declared.words.FaceKind.TheVariants.{Outflow}
+use Rattle.mesh_settings.specs.Mesh.{is_inflow}
 
 -- how fast a velocity goes up along its axis
 abbrev pub upwards : ℤ → ℕ
@@ -42,21 +43,11 @@ both_rates f m level axis = right_rate f m axis level + left_rate f m axis level
 abbrev pub rate_sum : ℕ → ℕ → Field → Moves → ℕ
 rate_sum dims level f m = sum_by (both_rates f m level) (range_with_len 0 dims)
 
--- the root cells of the mesh
-abbrev pub cells_of : List ℕ → ℕ
-cells_of size = slice_index size 0 * slice_index size 1 * slice_index size 2
-
 -- the root cells that lie behind a face that is normal to an axis
 abbrev pub face_cells : List ℕ → ℕ → ℕ
 face_cells size zero = slice_index size 1 * slice_index size 2
 face_cells size (suc zero) = slice_index size 0 * slice_index size 2
 face_cells size (suc (suc _)) = slice_index size 0 * slice_index size 1
-
-abbrev pub is_inflow : FaceKind → Bool
-is_inflow Periodic = false
-is_inflow Outflow = false
-is_inflow Reflecting = false
-is_inflow Inflow = true
 
 -- what may come in through a face in a stage, the amount outside of it once for each root cell behind it
 abbrev pub face_inflow : ℕ → List ℕ → List FaceKind → Moves → ℕ → ℕ

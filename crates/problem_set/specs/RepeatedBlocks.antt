@@ -2,13 +2,13 @@
 use Rattle.std.specs.Prelude.{ℕ, List, Result, Ok}
 use Rattle.input_file.specs.Blocks.{Blocks}
 use Rattle.deck_values.specs.declared.fault.ProblemFault.{ProblemFault}
-use Rattle.problem_set.specs.declared.words.Mode.{Mode}
+use Rattle.mesh_settings.specs.declared.words.Mode.{Mode}
 use Rattle.package_fields.specs.declared.field.Field.{Field}
-use Rattle.problem_set.specs.declared.block_kinds.BlockNames.{BlockNames}
+use Rattle.mesh_settings.specs.declared.block_kinds.BlockNames.{BlockNames}
 use Rattle.problem_set.specs.declared.repeated_blocks.CountedBlocks.{CountedBlocks}
 use Rattle.problem_set.specs.declared.repeated_blocks.RepeatedBlocks.{RepeatedBlocks}
 use Rattle.deck_values.specs.Reading.{◌>>=◌, each}
-use Rattle.problem_set.specs.BlockKinds.{block_names}
+use Rattle.mesh_settings.specs.BlockKinds.{block_names}
 use Rattle.problem_set.specs.Packages.{fields}
 use Rattle.problem_set.specs.EntryReaders.{static_at, start_box, reaction, criterion}
 

@@ -2,8 +2,8 @@
 use Rattle.std.specs.Prelude.{ℕ, List, Option}
 use Rattle.morton_order.specs.declared.space.Shape.{Shape}
 use Rattle.package_fields.specs.Fields.{Registered}
-use Rattle.problem_set.specs.declared.words.Mode.{Mode}
-use Rattle.problem_set.specs.declared.words.FaceKind.{FaceKind}
+use Rattle.mesh_settings.specs.declared.words.Mode.{Mode}
+use Rattle.mesh_settings.specs.declared.words.FaceKind.{FaceKind}
 use Rattle.problem_set.specs.declared.problem_items.Moves.{Moves}
 use Rattle.problem_set.specs.declared.problem_items.StaticAt.{StaticAt}
 use Rattle.problem_set.specs.declared.problem_items.StartBox.{StartBox}

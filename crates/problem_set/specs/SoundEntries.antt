@@ -1,6 +1,6 @@
 -- What holds of the blocks of a problem that come in any number.
-pub use Rattle.problem_set.specs.Limits.{greatest_total}
-use Rattle.std.specs.Prelude.{◌≡◌, ◌≢◌, ◌≤◌, ◌<◌, ◌-◌, ◌*◌, ℕ, ℤ, pos, List, length, slice_index, All, unsigned_abs}
+pub use Rattle.mesh_settings.specs.Limits.{greatest_total}
+use Rattle.std.specs.Prelude.{◌≡◌, ◌≢◌, ◌≤◌, ◌<◌, ◌-◌, ◌*◌, ℕ, ℤ, pos, List, length, All, unsigned_abs}
 use Rattle.std.specs.List.{slice_index_or, zip}
 use Rattle.package_fields.specs.Fields.{Registered, IsSound}
 use Rattle.package_fields.specs.declared.field.Field.{Field}
@@ -10,8 +10,9 @@ use Rattle.problem_set.specs.declared.problem_items.StartBox.{StartBox}
 use Rattle.problem_set.specs.declared.problem_items.Reaction.{Reaction}
 use Rattle.problem_set.specs.declared.problem_items.Criterion.{Criterion}
 use Rattle.problem_set.specs.Rates.{rate_sum, bound}
-use Rattle.problem_set.specs.declared.words.FaceKind.{FaceKind}
-use Rattle.problem_set.specs.Limits.{greatest_factor, most_statics, most_boxes, most_reactions, most_criteria}
+use Rattle.mesh_settings.specs.declared.words.FaceKind.{FaceKind}
+use Rattle.mesh_settings.specs.MeshPart.{IsPart}
+use Rattle.mesh_settings.specs.Limits.{greatest_factor, most_statics, most_boxes, most_reactions, most_criteria}
 
 -- velocities along the axes, each of at most a milliard
 pub record IsSlow (v : List ℤ) : Type 0 where
@@ -29,19 +30,6 @@ pub record IsMoves (m : Moves) : Type 0 where
   pub least_order : 1 ≤ m.order
   pub most_order : m.order ≤ 2
   pub amounts : All (λ amount. amount ≤ greatest_total) m.entry
-
--- a part of the mesh lies in it along an axis
-pub record IsSpan (size lo hi : List ℕ) (axis : ℕ) : Type 0 where
-  pub ordered : slice_index lo axis ≤ slice_index hi axis
-  pub within : slice_index hi axis < slice_index size axis
-
--- a part of the mesh lies in it
-pub record IsPart (size lo hi : List ℕ) : Type 0 where
-  pub three_lo : length lo ≡ 3
-  pub three_hi : length hi ≡ 3
-  pub along1 : IsSpan size lo hi 0
-  pub along2 : IsSpan size lo hi 1
-  pub along3 : IsSpan size lo hi 2
 
 pub record IsStatic (size : List ℕ) (levels : ℕ) (s : StaticAt) : Type 0 where
   pub least : 1 ≤ s.level

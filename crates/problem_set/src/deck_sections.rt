@@ -1,15 +1,13 @@
 //! All that a deck says, part by part.
 
 ghost use Rattle.std.specs.Prelude.{◌≡◌, All, length};
-ghost use Rattle.problem_set.specs.Sound.{IsSize, IsRefining, IsFaces, IsGrid, IsStepping};
+ghost use Rattle.mesh_settings.specs.Sound.{IsSize, IsRefining, IsFaces, IsGrid, IsStepping};
 ghost use Rattle.problem_set.specs.SoundEntries.{IsMoves, AreEntries};
 
-use crate::grid::{Grid, read_grid};
-use crate::mesh::{Mesh, read_mesh_keys};
 use crate::repeated_blocks::{RepeatedBlocks, read_repeated_blocks};
-use crate::stepping::{Stepping, read_stepping};
 use deck_values::ProblemFault;
 use input_file::Deck;
+use mesh_settings::{Grid, Mesh, Stepping, read_grid, read_mesh_keys, read_stepping};
 use std::alloc::Global;
 
 /// What the sections of a deck say, before it is known whether the rates and the totals fit.

@@ -6,11 +6,11 @@ ghost use Rattle.deck_values.specs.Reading.{Gives};
 ghost use Rattle.problem_set.specs.FieldBlocks.{behind_field, field_name, default_flags, package_name, flags, ids, flags_and_ids, speed, spread, order, entry_amount};
 ghost use Rattle.problem_set.specs.FieldBlocks.{speeds, entry_pair, entry_amounts, moves, field_block};
 ghost use Rattle.problem_set.specs.SoundEntries.{IsMoves, IsSlow, greatest_total};
-ghost use Rattle.problem_set.specs.Limits.{greatest_factor};
+ghost use Rattle.mesh_settings.specs.Limits.{greatest_factor};
 
-use crate::limits::{GREATEST_FACTOR, GREATEST_TOTAL};
 use crate::problem_items::Moves;
 use deck_values::{BlockReader, ProblemFault, flags_of, ids_of, is_name};
+use mesh_settings::{GREATEST_FACTOR, GREATEST_TOTAL};
 use package_fields::{FieldFault, Flag, Flags, Items, Name, has_flag};
 use std::alloc::Global;
 

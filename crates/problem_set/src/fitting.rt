@@ -2,14 +2,15 @@
 
 ghost use Rattle.std.specs.Prelude.{◌≡◌, ◌≤◌, ◌<◌, ◌*◌, ◌^◌, Some, length, slice_get, slice_index, All, sum_by};
 ghost use Rattle.std.specs.List.{slice_index_or, range_with_len};
-ghost use Rattle.problem_set.specs.Rates.{cells_of, face_cells, is_inflow, face_inflow, field_inflow, stage_inflow, span, box_total};
-ghost use Rattle.problem_set.specs.Sound.{IsSize, IsFaces};
+ghost use Rattle.mesh_settings.specs.Mesh.{cells_of, is_inflow};
+ghost use Rattle.problem_set.specs.Rates.{face_cells, face_inflow, field_inflow, stage_inflow, span, box_total};
+ghost use Rattle.mesh_settings.specs.Sound.{IsSize, IsFaces};
 ghost use Rattle.problem_set.specs.SoundEntries.{IsMoves, IsBox};
-ghost use Rattle.problem_set.specs.Limits.{greatest_size, most_boxes};
+ghost use Rattle.mesh_settings.specs.Limits.{greatest_size, most_boxes, most_fields};
 
 use crate::problem_items::{Moves, StartBox};
 use crate::rates::{field_at, moves_at};
-use crate::words::{FaceKind, Faces};
+use mesh_settings::{FaceKind, Faces};
 use package_fields::{Field, Flag, has_flag};
 
 /// The cells of a part of the mesh along an axis, both ends included.
@@ -149,7 +150,7 @@ pub fn stage_inflow(
     requires size { IsSize size }
     requires few_cells { cells_of size ≤ 2 ^ 34 }
     requires faces { IsFaces faces.now }
-    requires few { length fields.now ≤ 256 }
+    requires few { length fields.now ≤ most_fields }
     requires as_many { length moves.now ≡ length fields.now }
     requires moves { All IsMoves moves.now }
     ensures value { result ≡ stage_inflow dims size faces.now fields.now moves.now }

@@ -7,16 +7,11 @@
 //! Blocks and keys that it does not know are not read.
 #![tactic(auto)]
 
-mod block_kinds;
 mod deck_sections;
 mod entry_readers;
 mod field_blocks;
 mod field_form;
 mod fitting;
-mod grid;
-mod limits;
-mod mesh;
-mod mesh_part;
 mod package_blocks;
 mod packages;
 mod problem;
@@ -24,13 +19,11 @@ mod problem_items;
 mod problem_reader;
 mod rates;
 mod repeated_blocks;
-mod stepping;
-mod words;
 
 pub use deck_generator::generate;
 pub use deck_values::ProblemFault;
+pub use mesh_settings::{FaceKind, Faces, Method, Mode};
 pub use problem::Problem;
 pub use problem_items::{Criterion, Moves, Reaction, StartBox, StaticAt};
 pub use problem_reader::read_problem;
 pub use rates::Rates;
-pub use words::{FaceKind, Faces, Method, Mode};

@@ -17,6 +17,7 @@ use crate::package_blocks::{block_at, next_blocks};
 use crate::problem_items::Moves;
 use deck_values::{ProblemFault, names_of, read_blocks};
 use input_file::Deck;
+use mesh_settings::MOST_FIELDS;
 use package_fields::{
     Field, FieldFault, Fields, Flag, Flags, Items, Name, Package, Registry, has_flag, is_permitted,
 };
@@ -31,7 +32,7 @@ pub struct FieldTable {
 }
 
 /// How many fields of a package are gathered at most: one more than a registry may have.
-const MOST_GATHERED: usize = 257;
+const MOST_GATHERED: usize = MOST_FIELDS + 1;
 
 /// Fields and how each of them moves.
 #[derive(Drop)]

@@ -1,11 +1,11 @@
 ghost use Rattle.std.specs.Prelude.{◌≡◌, ◌≤◌, ◌<◌, length, slice_get, Some};
 ghost use Rattle.std.proofs.Props.{props};
-ghost use Rattle.problem_set.specs.Sound.{IsSize, IsRefining, IsFaces, IsGrid, IsStepping};
+ghost use Rattle.mesh_settings.specs.Sound.{IsSize, IsRefining, IsFaces, IsGrid, IsStepping};
 ghost use Rattle.problem_set.specs.SoundEntries.{AreFields, AreEntries, HaveFittingRates, HasBound};
 
 use crate::problem_items::{Criterion, Moves, Reaction, StartBox, StaticAt};
 use crate::rates::Rates;
-use crate::words::{Faces, Mode};
+use mesh_settings::{Faces, Mode};
 use morton_order::Shape;
 use package_fields::{Flag, Items, Registry};
 

@@ -1,6 +1,6 @@
 //! The items that a problem lists: how each field moves, static boxes, opening boxes, reactions and criteria.
 
-use crate::words::Method;
+use mesh_settings::Method;
 
 /// How a field moves, and what stands outside of the faces where it flows in.
 #[derive(Clone, Copy)]

@@ -10,15 +10,13 @@ ghost use Rattle.problem_set.specs.SettingsOf.{sections_settings, settings_of};
 
 use crate::deck_sections::DeckSections;
 use crate::fitting::{boxes_total, stage_inflow};
-use crate::grid::Grid;
-use crate::limits::GREATEST_TOTAL;
-use crate::mesh::Mesh;
 use crate::packages::FieldTable;
 use crate::problem::Problem;
 use crate::rates::check_rates;
 use crate::repeated_blocks::{CountedBlocks, RepeatedBlocks};
 use deck_values::ProblemFault;
 use input_file::Deck;
+use mesh_settings::{GREATEST_TOTAL, Grid, Mesh};
 use std::alloc::Global;
 
 /// The problem that a deck gives.

@@ -8,7 +8,7 @@ ghost use Rattle.deck_values.specs.declared.fault.ProblemFault.TheVariants.{NoMe
 ghost use Rattle.problem_set.specs.Rates.{upwards, downwards, velocity, right_rate, left_rate, rate_sum};
 ghost use Rattle.problem_set.specs.Fitting.{sum_fits, rates_fit};
 ghost use Rattle.problem_set.specs.SoundEntries.{IsMoves};
-ghost use Rattle.problem_set.specs.Limits.{greatest_factor};
+ghost use Rattle.mesh_settings.specs.Limits.{greatest_factor};
 
 use crate::problem_items::Moves;
 use deck_values::ProblemFault;

@@ -1,6 +1,6 @@
 -- What is measured in the cells of a block.
 use Rattle.std.proofs.Common.{◌≡◌, ℕ, ◌/◌, ◌%◌, ◌<◌, ◌≤◌, List, [], ◌∷◌, slice_index, ap, subst, ◌∙◌, arith}
-use Rattle.problem_set.specs.declared.words.Method.{Method}
+use Rattle.mesh_settings.specs.declared.words.Method.{Method}
 use Rattle.block_layout.specs.declared.layout.Layout.{Layout}
 use Rattle.block_layout.specs.Indices.{IsWithin, count_of, index_of, number_of}
 use Rattle.block_layout.proofs.Boxes.{index_below, number_bound, number_index}

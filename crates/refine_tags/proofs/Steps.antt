@@ -2,7 +2,7 @@
 use Rattle.std.proofs.Common.{◌≡◌, ℕ, zero, suc, ◌+◌, ◌-◌, ◌<◌, ◌≤◌, Bool, true, false, cond, nat_lt, List, [], ◌∷◌, length, slice_index, refl, arith, ap}
 use Rattle.std.proofs.lemmas.Bool.{lt-ltb, ltb-true}
 use Rattle.std.proofs.lemmas.Bool.Decides.{nat_tests}
-use Rattle.problem_set.specs.declared.words.Method.TheVariants.{Jump}
+use Rattle.mesh_settings.specs.declared.words.Method.TheVariants.{Jump}
 use Rattle.mesh_rules.specs.Sums.{greatest_to}
 use Rattle.mesh_rules.specs.Tags.{difference}
 use Rattle.block_layout.specs.declared.layout.Layout.{Layout}

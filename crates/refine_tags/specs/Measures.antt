@@ -1,7 +1,7 @@
 -- What a method measures of a block's own cells, which lie as a box in a list.
 use Rattle.std.specs.Prelude.{ℕ, ◌+◌, ◌*◌, ◌^◌, cond, nat_lt, List, slice_index}
-use Rattle.problem_set.specs.declared.words.Method.{Method}
-use Rattle.problem_set.specs.declared.words.Method.TheVariants.{Peak, Jump}
+use Rattle.mesh_settings.specs.declared.words.Method.{Method}
+use Rattle.mesh_settings.specs.declared.words.Method.TheVariants.{Peak, Jump}
 use Rattle.mesh_rules.specs.Sums.{greatest_to}
 use Rattle.mesh_rules.specs.Tags.{difference}
 use Rattle.block_layout.specs.declared.layout.Layout.{Layout}

@@ -1,7 +1,7 @@
 //! What a criterion measures of a block, and what it wishes.
 
 ghost use Rattle.std.specs.Prelude.{◌≡◌, ◌+◌, ◌*◌, ◌<◌, ◌≤◌, [], ◌∷◌, ℕ, length, slice_index};
-ghost use Rattle.problem_set.specs.declared.words.Method.TheVariants.{Jump};
+ghost use Rattle.mesh_settings.specs.declared.words.Method.TheVariants.{Jump};
 ghost use Rattle.mesh_rules.specs.Tags.{difference, wish_by};
 ghost use Rattle.block_layout.specs.Layouts.{len};
 ghost use Rattle.block_layout.specs.Regions.{interior};

@@ -14,7 +14,8 @@ use Rattle.problem_set.specs.Settings.{Settings}
 use Rattle.problem_set.specs.declared.problem_items.Moves.{Moves}
 use Rattle.problem_set.specs.declared.problem.Problem.{Problem}
 use Rattle.problem_set.specs.SettingsOf.{settings_of}
-use Rattle.problem_set.specs.Rates.{face_cells, face_inflow, field_inflow, is_inflow, stage_inflow}
+use Rattle.mesh_settings.specs.Mesh.{is_inflow}
+use Rattle.problem_set.specs.Rates.{face_cells, face_inflow, field_inflow, stage_inflow}
 use Rattle.mesh_rules.specs.Sums.{sum_to}
 use Rattle.mesh_rules.specs.Mesh.{Mesh, cell_lattice, total_of}
 use Rattle.mesh_rules.specs.Fields.{field_at, field_count, has_fluxes, has_ghosts, kind_at, moves_at, side_number}

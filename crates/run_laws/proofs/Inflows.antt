@@ -13,9 +13,10 @@ use Rattle.mesh_num.specs.Rate.{rate}
 use Rattle.package_fields.specs.declared.flag.Flag.TheVariants.{WithFluxes}
 use Rattle.package_fields.specs.Flags.{has}
 use Rattle.problem_set.specs.Settings.{Settings}
-use Rattle.problem_set.specs.Rates.{both_rates, downwards, is_inflow, upwards, velocity}
-use Rattle.problem_set.specs.declared.words.FaceKind.{FaceKind}
-use Rattle.problem_set.specs.declared.words.FaceKind.TheVariants.{Periodic, Outflow, Reflecting, Inflow}
+use Rattle.mesh_settings.specs.Mesh.{is_inflow}
+use Rattle.problem_set.specs.Rates.{both_rates, downwards, upwards, velocity}
+use Rattle.mesh_settings.specs.declared.words.FaceKind.{FaceKind}
+use Rattle.mesh_settings.specs.declared.words.FaceKind.TheVariants.{Periodic, Outflow, Reflecting, Inflow}
 use Rattle.mesh_rules.specs.Sums.{sum_to}
 use Rattle.mesh_rules.specs.Mesh.{IsMesh, Mesh, OnLeaf, block_of, cell_lattice, is_inner, sum_cells}
 use Rattle.mesh_rules.specs.Look.{look}

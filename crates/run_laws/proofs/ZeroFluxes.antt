@@ -18,8 +18,8 @@ use Rattle.problem_set.specs.Rates.{downwards, upwards, velocity}
 use Rattle.problem_set.specs.Settings.{Settings}
 use Rattle.problem_set.specs.declared.problem.Problem.{Problem}
 use Rattle.problem_set.specs.SettingsOf.{settings_of}
-use Rattle.problem_set.specs.declared.words.FaceKind.{FaceKind}
-use Rattle.problem_set.specs.declared.words.FaceKind.TheVariants.{Periodic, Outflow, Reflecting, Inflow}
+use Rattle.mesh_settings.specs.declared.words.FaceKind.{FaceKind}
+use Rattle.mesh_settings.specs.declared.words.FaceKind.TheVariants.{Periodic, Outflow, Reflecting, Inflow}
 use Rattle.mesh_rules.specs.Sums.{sum_over}
 use Rattle.mesh_rules.specs.Mesh.{Mesh, block_of, is_inner, stored}
 use Rattle.mesh_rules.specs.Fields.{field_at, field_count, has_fluxes, has_ghosts, kind_at, moves_at}

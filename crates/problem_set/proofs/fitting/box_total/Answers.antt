@@ -1,7 +1,8 @@
 use Rattle.std.proofs.Common.{◌≡◌, ℕ, ◌*◌, ◌≤◌, ◌^◌, List, arith}
 use Rattle.std.specs.Prelude.{slice_index}
-use Rattle.problem_set.specs.Rates.{cells_of, span}
-use Rattle.problem_set.specs.SoundEntries.{IsPart}
+use Rattle.mesh_settings.specs.Mesh.{cells_of}
+use Rattle.problem_set.specs.Rates.{span}
+use Rattle.mesh_settings.specs.MeshPart.{IsPart}
 use Rattle.problem_set.proofs.RateLemmas.{box_at_most}
 use Rattle.problem_set.proofs.fitting.box_total.Goals as goal
 

@@ -1,5 +1,5 @@
 use Rattle.std.proofs.Common.{ℕ, ◌+◌, ◌<◌, ◌≤◌, [], ◌∷◌, slice_index, subst, sym, arith}
-use Rattle.problem_set.specs.declared.words.Method.{Method}
+use Rattle.mesh_settings.specs.declared.words.Method.{Method}
 use Rattle.mesh_rules.specs.Tags.{difference}
 use Rattle.refine_tags.specs.Measures.{measured_at, total_at}
 use Rattle.refine_tags.proofs.Steps.{below_jump, jump_below, peak_each, peak_least, row_each, row_least}

@@ -3,10 +3,10 @@ use Rattle.std.proofs.Common.{◌≡◌, ◌==◌, ◌≤◌, ◌<◌, ◌*◌, 
 use Rattle.std.proofs.Math.Nat.{mul-le-mul, mul-le-mul_left, mul_comm, mul-mul-mul_comm}
 use Rattle.std.specs.Prelude.{slice_index}
 use Rattle.std.proofs.lemmas.Bool.Decides.{nat_tests}
-use Rattle.problem_set.specs.declared.words.FaceKind.{FaceKind}
-use Rattle.problem_set.specs.Grid.{roots_along, shape_of, root_blocks}
-use Rattle.problem_set.specs.Rates.{cells_of}
-use Rattle.problem_set.specs.Sound.{IsSize, IsCellsAlong, IsCells, IsGrid}
+use Rattle.mesh_settings.specs.declared.words.FaceKind.{FaceKind}
+use Rattle.mesh_settings.specs.Grid.{roots_along, shape_of, root_blocks}
+use Rattle.mesh_settings.specs.Mesh.{cells_of}
+use Rattle.mesh_settings.specs.Sound.{IsSize, IsCellsAlong, IsCells, IsGrid}
 
 -- past the end of a list its default is read
 pub get_or-none : {A : Type 0} (xs : List A) (i : ℕ) (d : A) → slice_get xs i ≡ None → get_or xs i d ≡ d

@@ -4,15 +4,15 @@ use Rattle.std.specs.List.{slice_index_or}
 use Rattle.input_file.specs.Texts.{Text}
 use Rattle.input_file.specs.Blocks.{Blocks}
 use Rattle.morton_order.specs.declared.space.Shape.{Shape}
-use Rattle.problem_set.specs.declared.words.FaceKind.{FaceKind}
-use Rattle.problem_set.specs.declared.words.FaceKind.TheVariants.{Outflow}
+use Rattle.mesh_settings.specs.declared.words.FaceKind.{FaceKind}
+use Rattle.mesh_settings.specs.declared.words.FaceKind.TheVariants.{Outflow}
 use Rattle.deck_values.specs.declared.fault.ProblemFault.{ProblemFault}
 use Rattle.deck_values.specs.declared.fault.ProblemFault.TheVariants.{BadValue, Limit}
-use Rattle.problem_set.specs.declared.grid.Grid.{Grid}
+use Rattle.mesh_settings.specs.declared.grid.Grid.{Grid}
 use Rattle.deck_values.specs.Reading.{◌>>=◌, only_if}
 use Rattle.deck_values.specs.BlockReader.{number}
-use Rattle.problem_set.specs.Mesh.{is_periodic}
-use Rattle.problem_set.specs.Limits.{least_cells, greatest_cells, greatest_roots}
+use Rattle.mesh_settings.specs.Mesh.{is_periodic}
+use Rattle.mesh_settings.specs.Limits.{least_cells, greatest_cells, greatest_roots}
 
 -- the name of the block
 unfoldable pub meshblock : Text

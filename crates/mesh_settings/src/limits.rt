@@ -14,12 +14,16 @@ pub const GREATEST_ROOTS: u64 = 65_536;
 pub const GREATEST_LEVELS: u64 = 11;
 /// The most tags in a row after which blocks are merged.
 pub const GREATEST_DEREFINE_COUNT: u64 = 1000;
+/// The most leaves of a partition.
+pub const GREATEST_PACK: i128 = 65_536;
 /// The most cycles of a run, and between two remeshings, dumps or frees.
 pub const GREATEST_CYCLES: u64 = 65_535;
 /// The most stages of a cycle.
 pub const GREATEST_STAGES: u64 = 4;
 /// The greatest denominator, velocity and diffusion coefficient.
 pub const GREATEST_FACTOR: u64 = 1_000_000_000;
+/// The most fields.
+pub const MOST_FIELDS: usize = 256;
 /// The most static boxes.
 pub const MOST_STATICS: usize = 256;
 /// The most opening boxes.

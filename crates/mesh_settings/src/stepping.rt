@@ -2,13 +2,12 @@
 
 ghost use Rattle.std.specs.Prelude.{◌≡◌, ◌≤◌, IfOk};
 ghost use Rattle.deck_values.specs.Reading.{Gives};
-ghost use Rattle.problem_set.specs.Stepping.{time as time_block, sparse as sparse_block, whole as whole_block};
-ghost use Rattle.problem_set.specs.Stepping.{nlim, alloc_threshold, dealloc_threshold, dealloc_count};
-ghost use Rattle.problem_set.specs.Stepping.{denominator, nstages, refine_every, dump_every};
-ghost use Rattle.problem_set.specs.Stepping.{sparsity, cycle_settings, stepping};
-ghost use Rattle.problem_set.specs.Sound.{IsSparsity, IsCycleSettings, IsStepping};
-ghost use Rattle.problem_set.specs.SoundEntries.{greatest_total};
-ghost use Rattle.problem_set.specs.Limits.{greatest_cycles, greatest_factor, greatest_stages};
+ghost use Rattle.mesh_settings.specs.Stepping.{time as time_block, sparse as sparse_block, whole as whole_block};
+ghost use Rattle.mesh_settings.specs.Stepping.{nlim, alloc_threshold, dealloc_threshold, dealloc_count};
+ghost use Rattle.mesh_settings.specs.Stepping.{denominator, nstages, refine_every, dump_every};
+ghost use Rattle.mesh_settings.specs.Stepping.{sparsity, cycle_settings, stepping};
+ghost use Rattle.mesh_settings.specs.Sound.{IsSparsity, IsCycleSettings, IsStepping};
+ghost use Rattle.mesh_settings.specs.Limits.{greatest_cycles, greatest_factor, greatest_stages, greatest_total};
 
 use crate::limits::{GREATEST_CYCLES, GREATEST_FACTOR, GREATEST_STAGES, GREATEST_TOTAL};
 use deck_values::{BlockReader, ProblemFault};

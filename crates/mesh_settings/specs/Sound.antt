@@ -2,18 +2,17 @@
 use Rattle.std.specs.Prelude.{◌≡◌, ◌≤◌, ◌<◌, ◌*◌, ◌%◌, ◌^◌, ℕ, List, length, slice_index}
 use Rattle.std.specs.List.{slice_index_or}
 use Rattle.std.specs.Option.{ForSome}
-use Rattle.problem_set.specs.declared.words.FaceKind.{FaceKind}
-use Rattle.problem_set.specs.declared.words.FaceKind.TheVariants.{Periodic}
-use Rattle.problem_set.specs.declared.mesh.Refining.{Refining}
-use Rattle.problem_set.specs.declared.stepping.Sparsity.{Sparsity}
-use Rattle.problem_set.specs.declared.stepping.CycleSettings.{CycleSettings}
-use Rattle.problem_set.specs.declared.stepping.Stepping.{Stepping}
+use Rattle.mesh_settings.specs.declared.words.FaceKind.{FaceKind}
+use Rattle.mesh_settings.specs.declared.words.FaceKind.TheVariants.{Periodic}
+use Rattle.mesh_settings.specs.declared.mesh.Refining.{Refining}
+use Rattle.mesh_settings.specs.declared.stepping.Sparsity.{Sparsity}
+use Rattle.mesh_settings.specs.declared.stepping.CycleSettings.{CycleSettings}
+use Rattle.mesh_settings.specs.declared.stepping.Stepping.{Stepping}
 use Rattle.morton_order.specs.declared.space.Shape.{Shape}
 use Rattle.morton_order.specs.Space.{IsShape}
-use Rattle.problem_set.specs.Mesh.{is_periodic}
-use Rattle.problem_set.specs.Grid.{dims_of}
-use Rattle.problem_set.specs.Rates.{cells_of}
-use Rattle.problem_set.specs.Limits.{greatest_size, least_cells, greatest_cells, greatest_roots, greatest_levels, greatest_derefine_count, greatest_pack, greatest_cycles, greatest_stages, greatest_factor, greatest_total}
+use Rattle.mesh_settings.specs.Mesh.{is_periodic, cells_of}
+use Rattle.mesh_settings.specs.Grid.{dims_of}
+use Rattle.mesh_settings.specs.Limits.{greatest_size, least_cells, greatest_cells, greatest_roots, greatest_levels, greatest_derefine_count, greatest_pack, greatest_cycles, greatest_stages, greatest_factor, greatest_total}
 
 -- the cells of a mesh along each axis: 4 to 4,194,304, or 1 along x2 and x3; 1 along x3 where it is 1 along x2
 pub record IsSize (size : List ℕ) : Type 0 where

@@ -3,12 +3,12 @@ use Rattle.std.specs.Prelude.{ℕ, Some, None, Result, Ok, codes}
 use Rattle.input_file.specs.Texts.{Text}
 use Rattle.input_file.specs.Blocks.{Blocks}
 use Rattle.deck_values.specs.declared.fault.ProblemFault.{ProblemFault}
-use Rattle.problem_set.specs.declared.stepping.Sparsity.{Sparsity}
-use Rattle.problem_set.specs.declared.stepping.CycleSettings.{CycleSettings}
-use Rattle.problem_set.specs.declared.stepping.Stepping.{Stepping}
+use Rattle.mesh_settings.specs.declared.stepping.Sparsity.{Sparsity}
+use Rattle.mesh_settings.specs.declared.stepping.CycleSettings.{CycleSettings}
+use Rattle.mesh_settings.specs.declared.stepping.Stepping.{Stepping}
 use Rattle.deck_values.specs.Reading.{◌>>=◌}
 use Rattle.deck_values.specs.BlockReader.{number}
-use Rattle.problem_set.specs.Limits.{greatest_cycles, greatest_factor, greatest_stages, greatest_total}
+use Rattle.mesh_settings.specs.Limits.{greatest_cycles, greatest_factor, greatest_stages, greatest_total}
 
 -- the names of the blocks
 unfoldable pub time : Text

@@ -2,9 +2,9 @@
 
 ghost use Rattle.std.specs.Prelude.{◌≢◌, ◌≤◌, ◌<◌, IfOk, length};
 ghost use Rattle.deck_values.specs.Reading.{Gives};
-ghost use Rattle.problem_set.specs.EntryReaders.{span_at, part, label, other_label, amount, lower_amount};
-ghost use Rattle.problem_set.specs.Sound.{IsSize};
-ghost use Rattle.problem_set.specs.SoundEntries.{IsPart, greatest_total};
+ghost use Rattle.mesh_settings.specs.MeshPart.{IsPart, span_at, part, label, other_label, amount, lower_amount};
+ghost use Rattle.mesh_settings.specs.Sound.{IsSize};
+ghost use Rattle.mesh_settings.specs.Limits.{greatest_total};
 
 use crate::limits::GREATEST_TOTAL;
 use deck_values::{BlockReader, ProblemFault};
@@ -18,7 +18,7 @@ pub struct Part {
 }
 
 /// A part of the mesh: by default all of it.
-#[tactic(auto, unfolding(crate::specs::EntryReaders::part))]
+#[tactic(auto, unfolding(crate::specs::MeshPart::part))]
 pub fn read_part(block: &BlockReader, size: [u32; 3]) -> Result<Part, ProblemFault>
     requires { IsSize size }
     ensures value { Gives result (part block.now.deck.now size block.now.block.now) }
@@ -34,7 +34,7 @@ pub fn read_part(block: &BlockReader, size: [u32; 3]) -> Result<Part, ProblemFau
 }
 
 /// The first and the last cell of a part along an axis of so many cells.
-#[tactic(auto, unfolding(crate::specs::EntryReaders::span_at))]
+#[tactic(auto, unfolding(crate::specs::MeshPart::span_at))]
 fn read_span(
     block: &BlockReader,
     low: &str,
@@ -53,7 +53,7 @@ fn read_span(
 }
 
 /// The number of the field with the label at a key.
-#[tactic(auto, unfolding(crate::specs::EntryReaders::label))]
+#[tactic(auto, unfolding(crate::specs::MeshPart::label))]
 pub fn read_label(block: &BlockReader, fields: &Registry, key: &str) -> Result<u32, ProblemFault>
     ensures value { Gives result (label block.now.deck.now fields.now.fields block.now.block.now key.now) }
     ensures within { IfOk result (λ field. field < length fields.now.fields) }
@@ -68,7 +68,7 @@ pub fn read_label(block: &BlockReader, fields: &Registry, key: &str) -> Result<u
 }
 
 /// The number of the field with the label at a key, which is another field than the first.
-#[tactic(auto, unfolding(crate::specs::EntryReaders::other_label))]
+#[tactic(auto, unfolding(crate::specs::MeshPart::other_label))]
 pub fn read_other_label(
     block: &BlockReader,
     fields: &Registry,
@@ -88,7 +88,7 @@ pub fn read_other_label(
 }
 
 /// An amount, which is required.
-#[tactic(auto, unfolding(crate::specs::EntryReaders::amount))]
+#[tactic(auto, unfolding(crate::specs::MeshPart::amount))]
 pub fn read_amount(block: &BlockReader, key: &str) -> Result<u64, ProblemFault>
     ensures value { Gives result (amount block.now.deck.now block.now.block.now key.now) }
     ensures most { IfOk result (λ a. a ≤ greatest_total) }
@@ -97,7 +97,7 @@ pub fn read_amount(block: &BlockReader, key: &str) -> Result<u64, ProblemFault>
 }
 
 /// An amount that is at most another.
-#[tactic(auto, unfolding(crate::specs::EntryReaders::lower_amount))]
+#[tactic(auto, unfolding(crate::specs::MeshPart::lower_amount))]
 pub fn read_lower_amount(block: &BlockReader, key: &str, most: u64) -> Result<u64, ProblemFault>
     ensures value { Gives result (lower_amount block.now.deck.now block.now.block.now key.now most) }
     ensures most { IfOk result (λ a. a ≤ most) }

@@ -2,12 +2,12 @@
 use Rattle.std.specs.Prelude.{[], ◌∷◌, Option, codes}
 use Rattle.input_file.specs.Texts.{Text}
 use Rattle.deck_values.specs.BlockReader.{named}
-use Rattle.problem_set.specs.declared.words.Mode.{Mode}
-use Rattle.problem_set.specs.declared.words.Mode.TheVariants.{Plain, Fixed, Adaptive}
-use Rattle.problem_set.specs.declared.words.FaceKind.{FaceKind}
-use Rattle.problem_set.specs.declared.words.FaceKind.TheVariants.{Periodic, Outflow, Reflecting, Inflow}
-use Rattle.problem_set.specs.declared.words.Method.{Method}
-use Rattle.problem_set.specs.declared.words.Method.TheVariants.{Peak, Jump}
+use Rattle.mesh_settings.specs.declared.words.Mode.{Mode}
+use Rattle.mesh_settings.specs.declared.words.Mode.TheVariants.{Plain, Fixed, Adaptive}
+use Rattle.mesh_settings.specs.declared.words.FaceKind.{FaceKind}
+use Rattle.mesh_settings.specs.declared.words.FaceKind.TheVariants.{Periodic, Outflow, Reflecting, Inflow}
+use Rattle.mesh_settings.specs.declared.words.Method.{Method}
+use Rattle.mesh_settings.specs.declared.words.Method.TheVariants.{Peak, Jump}
 
 abbrev pub mode_named : Text → Option Mode
 mode_named = named ((codes "none", Plain) ∷ (codes "static", Fixed) ∷ (codes "adaptive", Adaptive) ∷ [])

@@ -1,7 +1,7 @@
 use Rattle.std.proofs.Common.{arith, ◌≤◌}
-use Rattle.problem_set.specs.Grid.{root_blocks}
-use Rattle.problem_set.proofs.GridLemmas.{IsGrid-from}
-use Rattle.problem_set.proofs.grid.read_grid.Goals as goal
+use Rattle.mesh_settings.specs.Grid.{root_blocks}
+use Rattle.mesh_settings.proofs.GridLemmas.{IsGrid-from}
+use Rattle.mesh_settings.proofs.grid.read_grid.Goals as goal
 
 pub returns-clause-sound : goal.returns-clause-sound
 returns-clause-sound c =

@@ -2,12 +2,12 @@
 
 ghost use Rattle.std.specs.Prelude.{◌≡◌, ◌≤◌, ◌/◌, IfOk};
 ghost use Rattle.deck_values.specs.Reading.{Gives};
-ghost use Rattle.problem_set.specs.Grid.{meshblock as meshblock_name, cells_along, cells_or_one, cells, grid, dims_of, shape_of, root_blocks};
-ghost use Rattle.problem_set.specs.Mesh.{is_periodic};
+ghost use Rattle.mesh_settings.specs.Grid.{meshblock as meshblock_name, cells_along, cells_or_one, cells, grid, dims_of, shape_of, root_blocks};
+ghost use Rattle.mesh_settings.specs.Mesh.{is_periodic};
 ghost use Rattle.std.specs.List.{slice_index_or};
-ghost use Rattle.problem_set.specs.Sound.{IsSize, IsFaces};
-ghost use Rattle.problem_set.specs.Sound.{IsCellsAlong, IsCells, IsGrid};
-ghost use Rattle.problem_set.specs.Limits.{greatest_size};
+ghost use Rattle.mesh_settings.specs.Sound.{IsSize, IsFaces};
+ghost use Rattle.mesh_settings.specs.Sound.{IsCellsAlong, IsCells, IsGrid};
+ghost use Rattle.mesh_settings.specs.Limits.{greatest_size};
 
 use crate::limits::{GREATEST_CELLS, GREATEST_ROOTS, LEAST_CELLS};
 use crate::words::{FaceKind, Faces};

@@ -2,8 +2,8 @@
 
 ghost use Rattle.std.specs.Prelude.{◌≤◌, IfOk, length};
 ghost use Rattle.deck_values.specs.Reading.{Gives};
-ghost use Rattle.problem_set.specs.BlockKinds.{statics, boxes, reactions, criteria, block_names};
-ghost use Rattle.problem_set.specs.Limits.{most_statics, most_boxes, most_reactions, most_criteria};
+ghost use Rattle.mesh_settings.specs.BlockKinds.{statics, boxes, reactions, criteria, block_names};
+ghost use Rattle.mesh_settings.specs.Limits.{most_statics, most_boxes, most_reactions, most_criteria};
 
 use crate::limits::{MOST_BOXES, MOST_CRITERIA, MOST_REACTIONS, MOST_STATICS};
 use crate::words::Mode;

@@ -45,6 +45,10 @@ greatest_stages = 4
 abbrev pub greatest_factor : ℕ
 greatest_factor = 1000000000
 
+-- the fields of a registry
+abbrev pub most_fields : ℕ
+most_fields = 256
+
 -- the static boxes, opening boxes, reactions and criteria of a deck
 abbrev pub most_statics : ℕ
 most_statics = 256

@@ -2,13 +2,13 @@
 use Rattle.std.specs.Prelude.{List, [], Result, Ok, codes}
 use Rattle.input_file.specs.Texts.{Text}
 use Rattle.input_file.specs.Blocks.{Blocks}
-use Rattle.problem_set.specs.declared.words.Mode.{Mode}
-use Rattle.problem_set.specs.declared.words.Mode.TheVariants.{Plain, Fixed, Adaptive}
+use Rattle.mesh_settings.specs.declared.words.Mode.{Mode}
+use Rattle.mesh_settings.specs.declared.words.Mode.TheVariants.{Plain, Fixed, Adaptive}
 use Rattle.deck_values.specs.declared.fault.ProblemFault.{ProblemFault}
-use Rattle.problem_set.specs.declared.block_kinds.BlockNames.{BlockNames}
+use Rattle.mesh_settings.specs.declared.block_kinds.BlockNames.{BlockNames}
 use Rattle.deck_values.specs.Reading.{◌>>=◌}
 use Rattle.deck_values.specs.BlockNames.{names_within}
-use Rattle.problem_set.specs.Limits.{most_statics, most_boxes, most_reactions, most_criteria}
+use Rattle.mesh_settings.specs.Limits.{most_statics, most_boxes, most_reactions, most_criteria}
 
 -- static boxes are not read where nothing is refined
 unfoldable pub statics : Blocks → Mode → Result (List Text) ProblemFault

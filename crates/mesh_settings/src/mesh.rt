@@ -2,15 +2,17 @@
 
 ghost use Rattle.std.specs.Prelude.{◌≡◌, ◌≤◌, [], ◌∷◌, IfOk, IfSome, Ok};
 ghost use Rattle.deck_values.specs.Reading.{Gives};
-ghost use Rattle.problem_set.specs.Mesh.{mesh as mesh_block, size1, size2, size3};
-ghost use Rattle.problem_set.specs.Mesh.{refinement, numlevel};
-ghost use Rattle.problem_set.specs.Mesh.{derefine_count, pack_size};
-ghost use Rattle.problem_set.specs.Mesh.{face, face_pair, faces};
-ghost use Rattle.problem_set.specs.Mesh.{size, refining, mesh_keys, levels_in, is_periodic};
-ghost use Rattle.problem_set.specs.Sound.{IsSize, IsRefining, IsFaces};
-ghost use Rattle.problem_set.specs.Limits.{greatest_size, least_cells, greatest_levels, greatest_derefine_count, greatest_pack};
+ghost use Rattle.mesh_settings.specs.Mesh.{mesh as mesh_block, size1, size2, size3};
+ghost use Rattle.mesh_settings.specs.Mesh.{refinement, numlevel};
+ghost use Rattle.mesh_settings.specs.Mesh.{derefine_count, pack_size};
+ghost use Rattle.mesh_settings.specs.Mesh.{face, face_pair, faces};
+ghost use Rattle.mesh_settings.specs.Mesh.{size, refining, mesh_keys, levels_in, is_periodic};
+ghost use Rattle.mesh_settings.specs.Sound.{IsSize, IsRefining, IsFaces};
+ghost use Rattle.mesh_settings.specs.Limits.{greatest_size, least_cells, greatest_levels, greatest_derefine_count, greatest_pack};
 
-use crate::limits::{GREATEST_DEREFINE_COUNT, GREATEST_LEVELS, GREATEST_SIZE, LEAST_CELLS};
+use crate::limits::{
+    GREATEST_DEREFINE_COUNT, GREATEST_LEVELS, GREATEST_PACK, GREATEST_SIZE, LEAST_CELLS,
+};
 use crate::words::{FaceKind, Faces, Mode};
 use deck_values::{BlockReader, ProblemFault};
 use input_file::Deck;
@@ -188,7 +190,7 @@ fn read_pack_size(mesh: &BlockReader) -> Result<Option<u32>, ProblemFault>
     let n = mesh.signed_at("pack_size", 16)?;
     match n {
         -1 => Ok(None),
-        1..=65536 => Ok(Some(n as u32)),
+        1..=GREATEST_PACK => Ok(Some(n as u32)),
         _ => Err(mesh.limit("pack_size", n)),
     }
 }

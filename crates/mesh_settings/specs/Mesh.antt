@@ -1,19 +1,19 @@
 -- The keys of the mesh: its size, how it is refined, and its faces.
-use Rattle.std.specs.Prelude.{◌==◌, ◌&&◌, nat_le, if◌then◌else◌, ℕ, ℤ, pos, negsuc, Bool, true, false, List, [], ◌∷◌, Option, Some, None, Result, Ok, codes}
+use Rattle.std.specs.Prelude.{◌==◌, ◌&&◌, ◌*◌, nat_le, if◌then◌else◌, ℕ, ℤ, pos, negsuc, Bool, true, false, List, [], ◌∷◌, Option, Some, None, Result, Ok, slice_index, codes}
 use Rattle.input_file.specs.Texts.{Text}
 use Rattle.input_file.specs.Blocks.{Blocks}
-use Rattle.problem_set.specs.declared.words.Mode.{Mode}
-use Rattle.problem_set.specs.declared.words.Mode.TheVariants.{Plain, Fixed, Adaptive}
-use Rattle.problem_set.specs.declared.words.FaceKind.{FaceKind}
-use Rattle.problem_set.specs.declared.words.FaceKind.TheVariants.{Periodic, Outflow, Reflecting, Inflow}
+use Rattle.mesh_settings.specs.declared.words.Mode.{Mode}
+use Rattle.mesh_settings.specs.declared.words.Mode.TheVariants.{Plain, Fixed, Adaptive}
+use Rattle.mesh_settings.specs.declared.words.FaceKind.{FaceKind}
+use Rattle.mesh_settings.specs.declared.words.FaceKind.TheVariants.{Periodic, Outflow, Reflecting, Inflow}
 use Rattle.deck_values.specs.declared.fault.ProblemFault.{ProblemFault}
 use Rattle.deck_values.specs.declared.fault.ProblemFault.TheVariants.{BadValue}
-use Rattle.problem_set.specs.declared.mesh.Refining.{Refining}
-use Rattle.problem_set.specs.declared.mesh.Mesh.{Mesh}
+use Rattle.mesh_settings.specs.declared.mesh.Refining.{Refining}
+use Rattle.mesh_settings.specs.declared.mesh.Mesh.{Mesh}
 use Rattle.deck_values.specs.Reading.{◌>>=◌, only_if}
 use Rattle.deck_values.specs.BlockReader.{value_at, number, number_or_one, signed}
-use Rattle.problem_set.specs.Words.{mode_named, face_kind_named}
-use Rattle.problem_set.specs.Limits.{least_cells, greatest_size, greatest_levels, greatest_derefine_count, greatest_pack}
+use Rattle.mesh_settings.specs.Words.{mode_named, face_kind_named}
+use Rattle.mesh_settings.specs.Limits.{least_cells, greatest_size, greatest_levels, greatest_derefine_count, greatest_pack}
 
 -- the name of the block
 unfoldable pub mesh : Text
@@ -62,6 +62,12 @@ is_periodic Outflow = false
 is_periodic Reflecting = false
 is_periodic Inflow = false
 
+abbrev pub is_inflow : FaceKind → Bool
+is_inflow Periodic = false
+is_inflow Outflow = false
+is_inflow Reflecting = false
+is_inflow Inflow = true
+
 -- both are true, or both are false
 abbrev pub alike : Bool → Bool → Bool
 alike true b = b
@@ -82,6 +88,10 @@ size d = do
   n2 ← size2 d
   n3 ← size3 d n2
   Ok (n1 ∷ n2 ∷ n3 ∷ [])
+
+-- the root cells of the mesh
+abbrev pub cells_of : List ℕ → ℕ
+cells_of size = slice_index size 0 * slice_index size 1 * slice_index size 2
 
 -- how many levels there are: one where nothing is refined
 abbrev pub levels_in : Mode → ℕ → ℕ

@@ -1,5 +1,5 @@
 ghost use Rattle.std.specs.Prelude.{◌≡◌};
-ghost use Rattle.problem_set.specs.Words.{mode_named, face_kind_named, method_named};
+ghost use Rattle.mesh_settings.specs.Words.{mode_named, face_kind_named, method_named};
 
 use package_fields::Items;
 
@@ -57,8 +57,7 @@ impl FaceKind {
 }
 
 impl FaceKind {
-    ghost use Rattle.problem_set.specs.Mesh.{is_periodic};
-    ghost use Rattle.problem_set.specs.Rates.{is_inflow};
+    ghost use Rattle.mesh_settings.specs.Mesh.{is_periodic, is_inflow};
 
     /// Whether the axis wraps round at the face.
     pub fn is_periodic(self) -> bool
