@@ -1,13 +1,11 @@
 //! What becomes of a row of cells or faces in a stage.
 //!
-//! Each rule goes over rows along x1 and writes one: [`FacePass`] moves what passes the faces of an axis, [`CellPass`]
-//! what the cells beside one another pay each other, and [`SlopePay`] writes what cells pay by the second order.
+//! Each rule goes over rows along x1 and writes one: [`FacePass`] moves what passes the faces of an axis, and
+//! [`SlopePay`] writes what cells pay by the second order.
 #![tactic(auto)]
 
-mod cell_pass;
 mod face_pass;
 mod slope_pay;
 
-pub use cell_pass::CellPass;
 pub use face_pass::FacePass;
 pub use slope_pay::SlopePay;
