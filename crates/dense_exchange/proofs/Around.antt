@@ -84,6 +84,13 @@ comes_more e to k before low high was is_low is_high =
     ∙ sym (any_one_more (comes_along e to) 0 k)
     ∙ ap (comes_by e to) (sym one)
 
+-- where each side is asked only until something comes
+pub comes_next : (e : FieldMesh) (to k : ℕ) (before low high : Bool) → before ≡ comes_by e to k → low ≡ (before || comes_beyond e (low_side k) to) → high ≡ (low || comes_beyond e (high_side k) to) → high ≡ comes_by e to (k + 1)
+comes_next e to k before low high was is_low is_high =
+    is_high
+    ∙ ap (λ b. b || comes_beyond e (high_side k) to) is_low
+    ∙ comes_more e to k before (comes_beyond e (low_side k) to) (comes_beyond e (high_side k) to) was refl refl
+
 pub comes_all : (e : FieldMesh) (to : ℕ) → CanExchange e → comes_by e to e.layout.now.dims ≡ comes_to_leaf e to
 comes_all e to on = ap (comes_by e to) (on.mesh.dims ∙ sym (ap (λ s. s.dims) on.mesh.mesh.shape))
 

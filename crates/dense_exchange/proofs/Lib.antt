@@ -6,3 +6,4 @@ pub mod Filled
 pub mod Arms
 pub mod Copied
 pub mod Around
+pub mod Beside

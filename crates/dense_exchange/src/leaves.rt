@@ -10,7 +10,7 @@ ghost use Rattle.dense_exchange.specs.FieldMeshes.{CanExchange, HoldOwn, leaf_co
 ghost use Rattle.dense_exchange.specs.Leaves.{AreFilled, IsLeafFilled, calls_of, comes_to_leaf};
 
 use crate::field_mesh::FieldMesh;
-use crate::sides::fill_side;
+use crate::sides::fill_next;
 use crate::writes::copy_own;
 use block_layout::Layout;
 use block_tree::Tree;
@@ -49,9 +49,8 @@ fn fill_leaf(
 {
     let mut above = false;
     for axis in 0..on.layout.dims {
-        let low = fill_side(alloc, on, Side { axis, high: false }, to, ghosts)?;
-        let high = fill_side(alloc, on, Side { axis, high: true }, to, ghosts)?;
-        above = above | low | high;
+        let low = fill_next(alloc, on, Side { axis, high: false }, to, above, ghosts)?;
+        above = fill_next(alloc, on, Side { axis, high: true }, to, low, ghosts)?;
     }
     Ok(above)
 }

@@ -1,21 +1,23 @@
 //! The ghosts beyond one side of a leaf.
 
-ghost use Rattle.std.specs.Prelude.{◌≡◌, ◌<◌, IfOk, OnOk, All, map};
+ghost use Rattle.std.specs.Prelude.{◌≡◌, ◌≢◌, ◌<◌, ◌||◌, IfOk, OnOk, All, map};
 ghost use Rattle.mesh_rules.specs.Mask.{some_above};
 ghost use Rattle.std.specs.List.{list_any};
-ghost use Rattle.block_tree.specs.Behind.{fine, outside};
+ghost use Rattle.block_tree.specs.Behind.{fine, outside, same};
+ghost use Rattle.ghost_buffers.specs.declared.part.How.TheVariants.{Same};
 ghost use Rattle.dense_exchange.specs.FieldMeshes.{CanExchange, HoldOwn, leaf_count, leaf_on};
 ghost use Rattle.dense_exchange.specs.Sides.{IsFilled, IsReceived, IsSender, behind_leaf, comes_beyond, sent_to};
 
 use crate::field_mesh::FieldMesh;
 use crate::parts::{has_above, side_part};
-use crate::writes::{give_outside, give_part};
+use crate::writes::{copy_layers, give_outside, give_part};
 use block_tree::{Behind, FineLeaves};
 use bound_faces::ghost_of;
 use cell_lists::{Cells, NoMemory};
 use ghost_buffers::{How, fill};
 use morton_order::Side;
 use std::alloc::Global;
+use std::mem;
 
 /// Fills the ghosts of a leaf that a sender behind its side gives, and answers whether a total above the threshold
 /// comes.
@@ -110,7 +112,7 @@ fn receive_finer(
 }
 
 /// Fills the ghosts of a leaf beyond a side, and answers whether something above the threshold comes across it.
-pub(crate) fn fill_side(
+fn fill_side(
     alloc: Global,
     on: &FieldMesh,
     side: Side,
@@ -133,4 +135,97 @@ pub(crate) fn fill_side(
         }
         Behind::Fine(senders) => receive_finer(alloc, on, side, &senders, to, ghosts),
     }
+}
+
+/// Fills the ghosts of a leaf by another leaf of the same level behind its side, cell by cell.
+fn copy_same(alloc: Global, on: &FieldMesh, side: Side, from: u32, to: u32, ghosts: &mut Vec<Cells>)
+    requires on { CanExchange on.now }
+    requires axis { side.axis < on.now.layout.now.dims }
+    requires from { from < leaf_count on.now }
+    requires to { to < leaf_count on.now }
+    requires other { from ≢ to }
+    requires sender { behind_leaf on.now side to ≡ same (leaf_on on.now from) }
+    requires ghosts { HoldOwn on.now ghosts.old.items }
+    ensures { IsReceived on.now Same 0 side from to ghosts.old.items ghosts.new.items }
+{
+    let mut cells = mem::replace(&mut ghosts[to as usize], Cells::new(alloc));
+    copy_layers(
+        on.layout,
+        side,
+        ghosts[from as usize].as_slice(),
+        &mut cells,
+    );
+    ghosts[to as usize] = cells;
+}
+
+/// The same where the leaf behind the side may be the leaf itself.
+fn receive_same(
+    alloc: Global,
+    on: &FieldMesh,
+    side: Side,
+    from: u32,
+    to: u32,
+    ghosts: &mut Vec<Cells>,
+) -> Result<(), NoMemory>
+    requires on { CanExchange on.now }
+    requires axis { side.axis < on.now.layout.now.dims }
+    requires from { from < leaf_count on.now }
+    requires to { to < leaf_count on.now }
+    requires sender { behind_leaf on.now side to ≡ same (leaf_on on.now from) }
+    requires ghosts { HoldOwn on.now ghosts.old.items }
+    ensures { OnOk result (IsReceived on.now Same 0 side from to ghosts.old.items ghosts.new.items) }
+{
+    if from == to {
+        receive(alloc, on, How::Same, 0, side, from, to, ghosts)?;
+    } else {
+        copy_same(alloc, on, side, from, to, ghosts);
+    }
+    Ok(())
+}
+
+/// Fills the ghosts of a leaf beyond a side, across which is not asked what comes.
+fn fill_unasked(
+    alloc: Global,
+    on: &FieldMesh,
+    side: Side,
+    to: u32,
+    ghosts: &mut Vec<Cells>,
+) -> Result<(), NoMemory>
+    requires on { CanExchange on.now }
+    requires axis { side.axis < on.now.layout.now.dims }
+    requires to { to < leaf_count on.now }
+    requires ghosts { HoldOwn on.now ghosts.old.items }
+    ensures { OnOk result (IsFilled on.now side to ghosts.old.items ghosts.new.items) }
+{
+    match on.tree.behind(to, side) {
+        Behind::Same(from) => receive_same(alloc, on, side, from, to, ghosts),
+        _ => {
+            fill_side(alloc, on, side, to, ghosts)?;
+            Ok(())
+        }
+    }
+}
+
+/// Fills the ghosts of a leaf beyond one more side, and answers whether something above the threshold comes across it or
+/// has come before.
+pub(crate) fn fill_next(
+    alloc: Global,
+    on: &FieldMesh,
+    side: Side,
+    to: u32,
+    before: bool,
+    ghosts: &mut Vec<Cells>,
+) -> Result<bool, NoMemory>
+    requires on { CanExchange on.now }
+    requires axis { side.axis < on.now.layout.now.dims }
+    requires to { to < leaf_count on.now }
+    requires ghosts { HoldOwn on.now ghosts.old.items }
+    ensures filled { OnOk result (IsFilled on.now side to ghosts.old.items ghosts.new.items) }
+    ensures above { IfOk result (λ above. above ≡ (before || comes_beyond on.now side to)) }
+{
+    if !before {
+        return fill_side(alloc, on, side, to, ghosts);
+    }
+    fill_unasked(alloc, on, side, to, ghosts)?;
+    Ok(true)
 }

@@ -1,16 +1,17 @@
 //! What is written into the list of a block.
 
-ghost use Rattle.std.specs.Prelude.{◌≡◌, ◌<◌, length};
+ghost use Rattle.std.specs.Prelude.{◌≡◌, ◌<◌, not, length};
 ghost use Rattle.block_layout.specs.Indices.{count_of};
 ghost use Rattle.block_layout.specs.Layouts.{interior_len, len};
 ghost use Rattle.block_layout.specs.Regions.{ghosts, interior};
 ghost use Rattle.block_regions.specs.Written.{HasRegion, StaysOffRegion};
 ghost use Rattle.ghost_buffers.specs.Ghosts.{ghost_cell, received};
-ghost use Rattle.ghost_buffers.specs.Parts.{part_extents};
+ghost use Rattle.ghost_buffers.specs.declared.part.How.TheVariants.{Same};
+ghost use Rattle.ghost_buffers.specs.Parts.{part_extents, part_of};
 ghost use Rattle.restrict_prolong.specs.Refined.{at_index};
 
 use block_layout::Layout;
-use block_regions::{BlockRegion, in_block, whole};
+use block_regions::{BlockRegion, ghosts, in_block, inner_layers, whole};
 use bound_faces::fill_outside;
 use cell_boxes::{CopyRow, write_box};
 use cell_lists::Cells;
@@ -47,6 +48,41 @@ pub(crate) fn copy_own(layout: &Layout, own: &[u64], cells: &mut Cells)
     ensures long { length cells.new ≡ length cells.old }
 {
     write_interior(layout, own, cells.as_mut_slice());
+}
+
+/// Writes the ghosts beyond a side of a block from the layers of a block of the same level that stands behind it.
+fn write_layers(layout: &Layout, side: Side, sender: &[u64], cells: &mut [u64])
+    requires axis { side.axis < layout.now.dims }
+    requires sender { length sender.now ≡ len layout.now }
+    requires cells { length cells.old ≡ len layout.now }
+    ensures ghosts { HasRegion layout.now (received Same layout.now side.axis side.high 0)
+        (ghost_cell Same layout.now side.axis (part_of Same layout.now side.axis (not side.high) 0 sender.now))
+        cells.new }
+    ensures others { StaysOffRegion layout.now (received Same layout.now side.axis side.high 0) cells.old cells.new }
+{
+    let opposite = Side {
+        axis: side.axis,
+        high: !side.high,
+    };
+    let sent = inner_layers(layout, opposite, 2);
+    let given = ghosts(layout, side);
+    let from_box = in_block(layout, &sent);
+    let into_box = in_block(layout, &given);
+    write_box(&CopyRow, given.extents, sender, from_box, cells, into_box);
+}
+
+/// The same for a list of cells.
+pub(crate) fn copy_layers(layout: &Layout, side: Side, sender: &[u64], cells: &mut Cells)
+    requires axis { side.axis < layout.now.dims }
+    requires sender { length sender.now ≡ len layout.now }
+    requires cells { length cells.old ≡ len layout.now }
+    ensures ghosts { HasRegion layout.now (received Same layout.now side.axis side.high 0)
+        (ghost_cell Same layout.now side.axis (part_of Same layout.now side.axis (not side.high) 0 sender.now))
+        cells.new }
+    ensures others { StaysOffRegion layout.now (received Same layout.now side.axis side.high 0) cells.old cells.new }
+    ensures long { length cells.new ≡ length cells.old }
+{
+    write_layers(layout, side, sender, cells.as_mut_slice());
 }
 
 /// Writes the ghosts beyond a side that a part gives.
