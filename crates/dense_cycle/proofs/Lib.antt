@@ -6,3 +6,4 @@ mod Reactions
 pub mod Pushed
 mod StagedLists
 mod Cycles
+mod Rooms
