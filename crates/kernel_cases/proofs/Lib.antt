@@ -1,2 +1,3 @@
+mod LevelParts
 mod SmallBlocks
 mod SmallSums

@@ -16,19 +16,21 @@ sum_most : (n : ℕ) (each : ℕ → ℕ) → ((k : ℕ) → each k < 2 ^ 32) �
 sum_most zero each small = omega arith
 sum_most (suc n) each small = omega (arith, sum_most n each small, small n)
 
-eight : (dims : ℕ) → dims ≤ 3 → count_of (factors dims) ≤ 8
+pub eight : (dims : ℕ) → dims ≤ 3 → count_of (factors dims) ≤ 8
 eight zero h = omega arith
 eight (suc zero) h = omega arith
 eight (suc (suc zero)) h = omega arith
 eight (suc (suc (suc zero))) h = omega arith
 eight (suc (suc (suc (suc n)))) h = absurd (omega arith)
 
+pub eight_fit : (n : ℕ) (each : ℕ → ℕ) → n ≤ 8 → ((k : ℕ) → each k < 2 ^ 32) → sum_to n each < 2 ^ 62
+eight_fit n each few small = omega (arith, few, sum_most n each small)
+
 pub sums_small : (dims : ℕ) (n list i : List ℕ) → dims ≤ 3 → All (λ t. t < 2 ^ 32) list → sum_in (factors dims) (at_index (refined (factors dims) n) list) i < 2 ^ 64
 sums_small dims n list i h small =
-    bound (count_of (factors dims)) _ (eight dims h) (sum_most (count_of (factors dims)) (λ j. slice_index list (number_of (refined (factors dims) n) (part_index (factors dims) i j))) (λ j. each_small list (number_of (refined (factors dims) n) (part_index (factors dims) i j)) small))
-  where
-    bound : (n sum : ℕ) → n ≤ 8 → sum ≤ n * 2 ^ 32 → sum < 2 ^ 64
-    bound n sum p q = omega arith
+    let sum = eight_fit (count_of (factors dims)) (λ j. slice_index list (number_of (refined (factors dims) n) (part_index (factors dims) i j))) (eight dims h)
+    (λ j. each_small list (number_of (refined (factors dims) n) (part_index (factors dims) i j)) small) in
+    omega (arith, sum)
 
 pub below_62 : (list : List ℕ) → All (λ t. t < 2 ^ 32) list → All (λ t. t < 2 ^ 62) list
 below_62 list small k d h = omega (arith, small k d h)

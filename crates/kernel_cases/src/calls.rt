@@ -112,6 +112,7 @@ pub fn fused(
 pub fn slopes(
     layout: &Layout,
     rates: &LevelRates,
+    closed: [bool; 6],
     cells: &[u64; 8],
     right: &[u64; 5],
     left: &[u64; 5],
@@ -123,6 +124,6 @@ pub fn slopes(
     if layout.len() != 8 || layout.face_count() != 5 || !are_small(cells) {
         return false;
     }
-    slope_fluxes(layout, rates, [false; 6], cells, &mut rights, &mut lefts);
+    slope_fluxes(layout, rates, closed, cells, &mut rights, &mut lefts);
     rights == *right && lefts == *left
 }

@@ -5,12 +5,14 @@ use problem_set::Rates;
 use std::test::Fail;
 
 /// Dimensions, coarse cells along each axis, their totals, and those of the fine cells in them.
-const SHARES: [(u32, [u32; 3], &[u64], &[u64]); 6] = [
+const SHARES: [(u32, [u32; 3], &[u64], &[u64]); 8] = [
     (1, [2, 1, 1], &[5, 0], &[3, 2, 0, 0]),
     (2, [1, 1, 1], &[7], &[2, 2, 2, 1]),
     (2, [1, 1, 1], &[6], &[2, 2, 1, 1]),
+    (2, [1, 1, 1], &[3], &[1, 1, 1, 0]),
+    (2, [1, 1, 1], &[0], &[0, 0, 0, 0]),
     (2, [2, 1, 1], &[5, 2], &[2, 1, 1, 1, 1, 1, 0, 0]),
-    (3, [1, 1, 1], &[10], &[2, 2, 1, 1, 1, 1, 1, 1]),
+    (3, [1, 1, 1], &[11], &[2, 2, 2, 1, 1, 1, 1, 1]),
     (
         3,
         [1, 1, 2],
@@ -157,7 +159,29 @@ fn slopes_are_limited(rt: HostRuntime) -> Result<(), Fail> {
     };
     for row in SLOPES {
         let (cells, right, left) = row;
-        assert!(rt; slopes(&layout, &rates, &cells, &right, &left));
+        assert!(rt; slopes(&layout, &rates, [false; 6], &cells, &right, &left));
     }
+    Ok(())
+}
+
+/// Half of each cell moves to the right in a row with closed sides. By the second order the cell of 4, between nothing
+/// and 8, counts for 6.
+#[test]
+fn a_row_moves_by_both_orders(rt: HostRuntime) -> Result<(), Fail> {
+    let layout = Layout {
+        dims: 1,
+        cells: [4, 1, 1],
+    };
+    let along = Rates { right: 1, left: 0 };
+    let rates = LevelRates {
+        denominator: 2,
+        axes: [along; 3],
+    };
+    let closed = [true, true, false, false, false, false];
+    let before = [(2, 4), (3, 8)];
+    let after = [(2, 2), (3, 6), (4, 4)];
+    assert!(rt; fused(rt.alloc(), &layout, &rates, closed, &before, &after)?);
+    let cells = [0, 0, 4, 8, 0, 0, 0, 0];
+    assert!(rt; slopes(&layout, &rates, closed, &cells, &[0, 3, 4, 0, 0], &[0; 5]));
     Ok(())
 }
