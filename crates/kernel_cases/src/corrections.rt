@@ -80,7 +80,8 @@ impl Pairs {
     }
 }
 
-/// The same of lists.
+/// Puts the sums of a finer block's lists in those of a coarser one; answers whether they are such lists, and the
+/// numbers small.
 fn correct_lists(
     alloc: Global,
     layout: &Layout,
