@@ -96,7 +96,10 @@ fn correct_lists(
     if side.axis >= layout.dims || half > 3 {
         return Ok(false);
     }
-    if right.len() != size || left.len() != size || !are_small(right) || !are_small(left) {
+    if right.len() != size || !are_small(right) {
+        return Ok(false);
+    }
+    if left.len() != size || !are_small(left) {
         return Ok(false);
     }
     if into_right.len() != size || into_left.len() != size {
