@@ -1,0 +1,4 @@
+pub mod Buffers
+pub mod Letters
+pub mod Leases
+pub mod Works

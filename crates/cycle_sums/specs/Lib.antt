@@ -1,0 +1,4 @@
+pub mod Sums
+pub mod Shows
+pub mod Wishes
+pub mod Bounds
