@@ -1,0 +1,7 @@
+pub mod Merged
+pub mod Held
+pub mod Ghosts
+pub mod Fluxes
+pub mod Calls
+pub mod OneLetter
+pub mod Found

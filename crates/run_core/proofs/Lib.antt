@@ -1,0 +1,10 @@
+mod Posting
+mod Sums
+mod Takings
+mod Givings
+mod Deliveries
+mod Ready
+mod Idles
+mod Took
+mod Arrivals
+mod Gave
