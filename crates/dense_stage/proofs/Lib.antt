@@ -1,5 +1,8 @@
+pub mod RateFits
 pub mod Items
+pub mod Behinds
 pub mod Children
+pub mod SideSums
 pub mod LeafFlows
 pub mod Fluxes
 pub mod LeafOwn

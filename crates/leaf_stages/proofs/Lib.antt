@@ -1,3 +1,0 @@
-pub mod RateFits
-pub mod Behinds
-pub mod SideSums

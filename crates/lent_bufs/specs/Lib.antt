@@ -1,5 +1,0 @@
-pub mod Meshes
-pub mod Buffers
-pub mod Cleared
-pub mod Kept
-pub mod Sums

@@ -1,3 +1,0 @@
-pub mod Portions
-pub mod Fluxes
-pub mod Updates
