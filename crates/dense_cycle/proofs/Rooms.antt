@@ -1,8 +1,10 @@
 -- Room that serves again.
-use Rattle.std.proofs.Common.{◌≡◌, ℕ, subst, sym}
+use Rattle.std.proofs.Common.{◌≡◌, ◌<◌, ℕ, length, subst, sym}
 use Rattle.block_layout.specs.declared.layout.Layout.{Layout}
 use Rattle.block_layout.specs.Faces.{face_count}
 use Rattle.block_layout.specs.Layouts.{len}
+use Rattle.dense_mesh.specs.Ghosts.{list_at}
+use Rattle.dense_stage.specs.Faces.{AreListsOf}
 use Rattle.dense_cycle.specs.declared.work.Work.{Work}
 use Rattle.dense_cycle.specs.Work.{FitsWork, HasRoom}
 
