@@ -6,4 +6,3 @@ mod Reactions
 pub mod Pushed
 mod StagedLists
 mod Cycles
-mod Rooms
