@@ -3,4 +3,3 @@ mod Rows
 mod Gains
 mod MeshCells
 mod LeafSteps
-mod Unreacted
