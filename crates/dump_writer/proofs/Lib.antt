@@ -1,0 +1,5 @@
+mod Pieces
+mod Shown
+mod Blocks
+mod Sums
+mod Rows
