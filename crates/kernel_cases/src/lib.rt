@@ -11,7 +11,7 @@ mod small;
 pub use calls::{fused, prolonged, restricted, slopes};
 pub use corrections::{Finer, Passed, TwoLevels, corrected, replaced};
 pub use letters::{Places, Sender, unfilled};
-pub use reactions::{Expected, both_react, one_reacts};
+pub use reactions::{Expected, both_react, one_reacts, one_reacts_or_gives_up};
 
 #[cfg(test)]
 mod correction_tests;

@@ -1,4 +1,4 @@
-use crate::reactions::{Expected, both_react, one_reacts};
+use crate::reactions::{Expected, both_react, one_reacts, one_reacts_or_gives_up};
 use block_layout::Layout;
 use std::test::Fail;
 
@@ -82,5 +82,25 @@ fn a_field_gains(rt: HostRuntime) -> Result<(), Fail> {
         };
         assert!(rt; both_react(rt.alloc(), &layout, &first, &second, &expected)?);
     }
+    Ok(())
+}
+
+/// A reaction for which memory is refused in its midst leaves neither buffers nor flows. Memory is refused by the
+/// caller of this test alone, as `bench/refused_reactions.sh` does; with ample memory the reaction leaves what is
+/// expected.
+#[test]
+fn want_of_memory_gives_up_the_buffers(rt: HostRuntime) -> Result<(), Fail> {
+    let layout = Layout {
+        dims: 1,
+        cells: [4, 1, 1],
+    };
+    let (first, left, new, made) = ALONE[4];
+    let expected = Expected {
+        first: &left,
+        second: &[],
+        new,
+        made,
+    };
+    assert!(rt; one_reacts_or_gives_up(rt.alloc(), &layout, &first, &expected));
     Ok(())
 }

@@ -173,6 +173,53 @@ pub fn one_reacts(
     leaves(alloc, layout, bufs, expected)
 }
 
+/// Whether a reaction in a block that has the first field alone leaves what is expected of it, or was refused memory
+/// and then left no buffers and no flows, or had not begun with them.
+fn ends_well(
+    alloc: Global,
+    layout: &Layout,
+    mut bufs: Bufs,
+    mut flows: Flows,
+    first: &[u64],
+    expected: &Expected,
+) -> bool
+    requires flows { flows ≡ no_flow ∷ no_flow ∷ [] }
+    requires bufs { AreOf layout.now 0 2 bufs }
+    requires small { (place : ℕ) → sum (totals_at bufs 2 place) < 2 ^ 62 }
+{
+    match react(alloc, layout, &mut bufs, &mut flows) {
+        Ok(made) => {
+            holds(bufs.as_slice(), 0, 0, 0, expected.first)
+                && holds(made.as_slice(), 0, 1, 7, expected.new)
+                && are_of(flows.as_slice(), expected.made)
+        }
+        Err(_) => {
+            (bufs.is_empty() && flows.is_empty())
+                || (holds(bufs.as_slice(), 0, 0, 0, first) && are_of(flows.as_slice(), 0))
+        }
+    }
+}
+
+/// Whether a reaction in a block that has the first field alone leaves what is expected of it, or gives up the buffers
+/// where memory is refused in its midst.
+pub fn one_reacts_or_gives_up(
+    alloc: Global,
+    layout: &Layout,
+    first: &[u64],
+    expected: &Expected,
+) -> bool {
+    if first.len() != layout.len() || !are_small(first) {
+        return false;
+    }
+    let Ok(bufs) = one(alloc, layout, first) else {
+        return true;
+    };
+    match no_flows(alloc) {
+        Ok(flows) => ends_well(alloc, layout, bufs, flows, first, expected),
+        Err(_) => true,
+    }
+}
+
 /// Whether a reaction leaves what is expected of a block that has both fields.
 pub fn both_react(
     alloc: Global,
