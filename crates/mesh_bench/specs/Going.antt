@@ -1,0 +1,13 @@
+-- For the code: a tree to which a mesh state goes over.
+use Rattle.std.specs.Prelude.{◌≡◌, ℕ, ◌<◌, Bool, true, List, length}
+use Rattle.block_tree.specs.Blocks.{TreeOfBlocks, is_inner_of}
+use Rattle.block_tree.specs.Next.{IsNear}
+
+-- a tree over the same roots, near to one
+pub record IsNextOf (t next : TreeOfBlocks) : Type 0 where
+  pub shape : next.shape ≡ t.shape
+  pub near : IsNear t.shape (is_inner_of t) (is_inner_of next)
+
+-- after a step that says so, fewer pieces are to come
+abbrev pub IsFewer : Bool → List (List ℕ) → List (List ℕ) → Type 0
+IsFewer more before after = more ≡ true → length after < length before
