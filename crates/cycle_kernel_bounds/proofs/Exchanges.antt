@@ -12,8 +12,9 @@ use Rattle.morton_order.specs.Space.{parts}
 use Rattle.morton_order.proofs.Any.{or_left, or_right}
 use Rattle.morton_order.proofs.Crossing.{crossed_level}
 use Rattle.block_tree.specs.Behind.{Behind, Names, coarse, fine, outside, same}
-use Rattle.problem_set.specs.SoundEntries.{IsMoves, greatest_total}
-use Rattle.problem_set.specs.declared.problem_items.Moves.{Moves}
+use Rattle.deck_entries.specs.SoundEntries.{IsMoves}
+use Rattle.mesh_settings.specs.Limits.{greatest_total}
+use Rattle.deck_entries.specs.declared.entries.Moves.{Moves}
 use Rattle.mesh_settings.specs.declared.words.FaceKind.{FaceKind}
 use Rattle.mesh_settings.specs.declared.words.FaceKind.TheVariants.{Periodic, Outflow, Reflecting, Inflow}
 use Rattle.mesh_rules.specs.Due.{Exchange, ghost_letters}

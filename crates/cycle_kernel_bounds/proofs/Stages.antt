@@ -9,9 +9,9 @@ use Rattle.block_tree.proofs.Ancestors.{node_parent}
 use Rattle.package_fields.specs.declared.field.Field.{Field}
 use Rattle.package_fields.specs.declared.flag.Flag.TheVariants.{WithFluxes}
 use Rattle.package_fields.specs.Flags.{has}
-use Rattle.problem_set.specs.SoundEntries.{IsFittingSum}
+use Rattle.problem_set.specs.SoundProblem.{IsFittingSum}
 use Rattle.problem_set.specs.Rates.{both_rates, downwards, rate_sum, upwards, velocity}
-use Rattle.problem_set.specs.declared.problem_items.Moves.{Moves}
+use Rattle.deck_entries.specs.declared.entries.Moves.{Moves}
 use Rattle.mesh_rules.specs.Fields.{field_at, moves_at, rates_at}
 use Rattle.mesh_rules.specs.Mesh.{Mesh, is_inner, stored}
 use Rattle.mesh_rules.specs.Faces.{reconstructed}

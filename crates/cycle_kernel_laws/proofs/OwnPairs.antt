@@ -5,8 +5,8 @@ use Rattle.std.proofs.lemmas.Bool.{cases_lt}
 use Rattle.std.proofs.lemmas.List.{get_or-append-add, get_or_append_left, get_or_past}
 use Rattle.std.proofs.lemmas.List.Elements.{All-get_or}
 use Rattle.morton_order.specs.Neighbours.{across}
-use Rattle.problem_set.specs.SoundEntries.{IsMoves}
-use Rattle.problem_set.specs.declared.problem_items.Moves.{Moves}
+use Rattle.deck_entries.specs.SoundEntries.{IsMoves}
+use Rattle.deck_entries.specs.declared.entries.Moves.{Moves}
 use Rattle.problem_set.specs.declared.rates.Rates.{Rates}
 use Rattle.mesh_rules.specs.Fields.{FaceRates, kind_at, moves_at, rates_at}
 use Rattle.block_layout.specs.declared.layout.Layout.{Layout}

@@ -4,7 +4,7 @@ use Rattle.std.specs.List.{slice_index_or}
 use Rattle.package_fields.specs.declared.flow.Flow.{Flow}
 use Rattle.package_fields.specs.Flow.{no_flow}
 use Rattle.package_fields.specs.Kernel.{with_parts}
-use Rattle.problem_set.specs.declared.problem_items.Criterion.{Criterion}
+use Rattle.deck_entries.specs.declared.entries.Criterion.{Criterion}
 use Rattle.mesh_rules.specs.Fields.{field_count}
 use Rattle.mesh_rules.specs.Tags.{wish_by}
 use Rattle.block_layout.specs.declared.layout.Layout.{Layout}

@@ -1,7 +1,7 @@
 -- What becomes of the cells of a block whose fields react, and what the block wishes.
 use Rattle.std.specs.Prelude.{ℕ, List, map, slice_index}
 use Rattle.package_fields.specs.Kernel.{Reacted}
-use Rattle.problem_set.specs.declared.problem_items.Criterion.{Criterion}
+use Rattle.deck_entries.specs.declared.entries.Criterion.{Criterion}
 use Rattle.mesh_rules.specs.declared.wish.Wish.{Wish}
 use Rattle.mesh_rules.specs.Sums.{sum_to, table}
 use Rattle.mesh_rules.specs.Fields.{field_count}

@@ -2,7 +2,7 @@
 use Rattle.std.specs.Prelude.{ℕ, ◌<◌, ◌≤◌}
 use Rattle.std.specs.Option.{ForSome}
 use Rattle.mesh_rules.specs.Mesh.{IsMesh}
-use Rattle.problem_set.specs.SoundEntries.{AreFields}
+use Rattle.problem_set.specs.SoundProblem.{AreFields}
 use Rattle.block_geometry.specs.Blocks.{IsLayoutOf}
 use Rattle.cycle_kernels.specs.Blocks.{CycleMesh}
 use Rattle.cycle_kernels.specs.Kernels.{kernels_of}

@@ -12,8 +12,8 @@ use Rattle.morton_order.specs.declared.space.Side.{Side}
 use Rattle.morton_order.specs.Space.{child_number, same_loc}
 use Rattle.morton_order.proofs.Touching.{same_loc-is, same_loc-self}
 use Rattle.problem_set.specs.Settings.{Settings}
-use Rattle.problem_set.specs.SoundEntries.{IsMoves}
-use Rattle.problem_set.specs.declared.problem_items.Moves.{Moves}
+use Rattle.deck_entries.specs.SoundEntries.{IsMoves}
+use Rattle.deck_entries.specs.declared.entries.Moves.{Moves}
 use Rattle.mesh_settings.specs.declared.words.FaceKind.{FaceKind}
 use Rattle.mesh_settings.specs.declared.words.FaceKind.TheVariants.{Periodic, Outflow, Reflecting, Inflow}
 use Rattle.block_tree.specs.Blocks.{leaves}

@@ -17,7 +17,7 @@ use Rattle.block_tree.proofs.Next.{next_is_least, opening_is_least}
 use Rattle.block_tree.proofs.Numbers.{least_is_one}
 use Rattle.tree_change.specs.Tagged.{AreTags}
 use Rattle.problem_set.specs.declared.problem.Problem.{Problem}
-use Rattle.problem_set.specs.declared.problem_items.StaticAt.{StaticAt}
+use Rattle.deck_entries.specs.declared.entries.StaticAt.{StaticAt}
 use Rattle.problem_set.specs.SettingsOf.{settings_of}
 use Rattle.mesh_rules.specs.Mesh.{is_inner}
 use Rattle.mesh_rules.specs.Cycle.{State, reacted_to, tags_of}

@@ -17,11 +17,11 @@ use Rattle.block_tree.specs.Leaves.{inner_of, leaves_of}
 use Rattle.block_tree.specs.Blocks.{TreeOfBlocks, leaves, tree_with}
 use Rattle.block_tree.proofs.InnerList.{inner_test}
 use Rattle.block_tree.proofs.LeafList.{listed_leaf}
-use Rattle.problem_set.specs.declared.problem_items.StartBox.{StartBox}
+use Rattle.deck_entries.specs.declared.entries.StartBox.{StartBox}
 use Rattle.problem_set.specs.declared.problem.Problem.{Problem}
 use Rattle.problem_set.specs.Rates.{box_total, span}
 use Rattle.problem_set.specs.SettingsOf.{settings_of}
-use Rattle.problem_set.specs.SoundEntries.{IsBox}
+use Rattle.deck_entries.specs.SoundEntries.{IsBox}
 use Rattle.mesh_rules.specs.Sums.{sum_over}
 use Rattle.mesh_rules.specs.Mesh.{Mesh, OnLeaf, cell_at, cell_lattice}
 use Rattle.mesh_rules.specs.Fields.{field_count}

@@ -11,7 +11,7 @@ use Rattle.morton_order.specs.declared.space.Loc.{Loc}
 use Rattle.morton_order.specs.Space.{child_number, parent, parts}
 use Rattle.morton_order.proofs.Touching.{same_as}
 use Rattle.block_tree.proofs.Behinds.{fails}
-use Rattle.problem_set.specs.declared.problem_items.StartBox.{StartBox}
+use Rattle.deck_entries.specs.declared.entries.StartBox.{StartBox}
 use Rattle.mesh_rules.specs.Sums.{sum_over}
 use Rattle.mesh_rules.specs.Opening.{holds}
 use Rattle.mesh_laws.proofs.Looks.{some_parts}

@@ -3,7 +3,7 @@ use Rattle.std.specs.Prelude.{◌≡◌, ℕ, zero, suc, ◌+◌, ◌-◌, ◌*�
 use Rattle.morton_order.specs.declared.space.Loc.{Loc}
 use Rattle.morton_order.specs.Space.{child_number, factor, parent, parts}
 use Rattle.mesh_num.specs.Share.{share}
-use Rattle.problem_set.specs.declared.problem_items.StartBox.{StartBox}
+use Rattle.deck_entries.specs.declared.entries.StartBox.{StartBox}
 use Rattle.mesh_rules.specs.Sums.{sum_over, table}
 use Rattle.mesh_rules.specs.Opening.{holds}
 use Rattle.block_layout.specs.Indices.{count_of}

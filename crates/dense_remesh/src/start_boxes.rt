@@ -2,7 +2,7 @@
 
 ghost use Rattle.std.specs.Prelude.{◌≡◌, ◌==◌, ◌&&◌, ◌<◌, ◌^◌, nat_le, IfOk};
 ghost use Rattle.std.specs.List.{filter};
-ghost use Rattle.problem_set.specs.declared.problem_items.StartBox.{StartBox};
+ghost use Rattle.deck_entries.specs.declared.entries.StartBox.{StartBox};
 ghost use Rattle.mesh_rules.specs.Opening.{holds as holds_of};
 ghost use Rattle.dense_remesh.specs.StartBoxes.{amounts, cell_of, meets as meets_of, root_total as root_total_of};
 

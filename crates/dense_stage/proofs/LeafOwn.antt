@@ -7,9 +7,9 @@ use Rattle.morton_order.specs.declared.space.Loc.{Loc}
 use Rattle.morton_order.specs.declared.space.Shape.{Shape}
 use Rattle.block_tree.specs.Blocks.{TreeOfBlocks, leaves}
 use Rattle.problem_set.specs.declared.problem.Problem.{Problem}
-use Rattle.problem_set.specs.declared.problem_items.Moves.{Moves}
+use Rattle.deck_entries.specs.declared.entries.Moves.{Moves}
 use Rattle.problem_set.specs.SettingsOf.{settings_of}
-use Rattle.problem_set.specs.SoundEntries.{IsMoves}
+use Rattle.deck_entries.specs.SoundEntries.{IsMoves}
 use Rattle.mesh_rules.specs.Fields.{moves_at}
 use Rattle.block_layout.specs.declared.layout.Layout.{Layout}
 use Rattle.block_geometry.specs.Contents.{HasInterior, SeesAround}

@@ -8,7 +8,7 @@ use Rattle.problem_set.specs.declared.problem.Problem.{Problem}
 use Rattle.problem_set.specs.declared.rates.Rates.{Rates}
 use Rattle.problem_set.specs.Settings.{Settings}
 use Rattle.problem_set.specs.SettingsOf.{settings_of}
-use Rattle.problem_set.specs.SoundEntries.{IsFittingSum}
+use Rattle.problem_set.specs.SoundProblem.{IsFittingSum}
 use Rattle.problem_set.specs.Rates.{both_rates, downwards, left_rate, rate_sum, right_rate, upwards, velocity}
 use Rattle.mesh_rules.specs.Fields.{field_at, moves_at, rates_at}
 use Rattle.mesh_laws.proofs.Portions.{rate_grows}

@@ -13,10 +13,10 @@ use Rattle.block_tree.specs.declared.tags.Tag.{Tag}
 use Rattle.block_tree.specs.Tree.{is_listed}
 use Rattle.block_tree.specs.Blocks.{TreeOfBlocks, leaves}
 use Rattle.block_tree.proofs.LeafList.{listed_leaf}
-use Rattle.problem_set.specs.declared.problem_items.Criterion.{Criterion}
+use Rattle.deck_entries.specs.declared.entries.Criterion.{Criterion}
 use Rattle.problem_set.specs.declared.problem.Problem.{Problem}
 use Rattle.problem_set.specs.SettingsOf.{settings_of}
-use Rattle.problem_set.specs.SoundEntries.{IsCriterion}
+use Rattle.deck_entries.specs.SoundEntries.{IsCriterion}
 use Rattle.mesh_rules.specs.declared.wish.Wish.{Wish}
 use Rattle.mesh_rules.specs.Mesh.{Mesh}
 use Rattle.mesh_rules.specs.Fields.{field_count}

@@ -1,7 +1,7 @@
 -- For the code: what the lists of a leaf wish.
 use Rattle.std.specs.Prelude.{◌≡◌, ℕ, ◌<◌, List, [], ◌∷◌, length, map, slice_index}
 use Rattle.std.specs.List.{slice_index_or}
-use Rattle.problem_set.specs.declared.problem_items.Criterion.{Criterion}
+use Rattle.deck_entries.specs.declared.entries.Criterion.{Criterion}
 use Rattle.mesh_rules.specs.declared.wish.Wish.{Wish}
 use Rattle.mesh_rules.specs.Tags.{at_root, strongest, wish_by}
 use Rattle.block_layout.specs.declared.layout.Layout.{Layout}

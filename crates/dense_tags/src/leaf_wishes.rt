@@ -1,7 +1,7 @@
 //! What a leaf wishes.
 
 ghost use Rattle.std.specs.Prelude.{◌≡◌, ◌<◌, ◌≤◌, All, length, map};
-ghost use Rattle.problem_set.specs.declared.problem_items.Criterion.{Criterion};
+ghost use Rattle.deck_entries.specs.declared.entries.Criterion.{Criterion};
 ghost use Rattle.mesh_rules.specs.Tags.{at_root as at_root_of, strongest as strongest_of};
 ghost use Rattle.block_layout.specs.Layouts.{interior_len};
 ghost use Rattle.cell_boxes.specs.Boxes.{IsBoxIn};

@@ -17,12 +17,12 @@ use Rattle.deck_generator.specs.declared.form.Form.{Form}
 use Rattle.deck_generator.specs.Values.{field_label}
 use Rattle.deck_generator.specs.Generated.{first_cell, box_name, box_settings, reaction_settings, criterion_settings}
 use Rattle.mesh_settings.specs.declared.words.Method.TheVariants.{Peak}
-use Rattle.problem_set.specs.declared.problem_items.StartBox.{StartBox}
-use Rattle.problem_set.specs.declared.problem_items.Reaction.{Reaction}
-use Rattle.problem_set.specs.declared.problem_items.Criterion.{Criterion}
+use Rattle.deck_entries.specs.declared.entries.StartBox.{StartBox}
+use Rattle.deck_entries.specs.declared.entries.Reaction.{Reaction}
+use Rattle.deck_entries.specs.declared.entries.Criterion.{Criterion}
 use Rattle.mesh_settings.specs.Words.{method_named}
 use Rattle.mesh_settings.specs.MeshPart.{span_at, part, field_labelled, label, amount, other_label, lower_amount}
-use Rattle.problem_set.specs.EntryReaders.{start_box, reaction, method, tolerances, criterion}
+use Rattle.deck_entries.specs.EntryReaders.{start_box, reaction, method, tolerances, criterion}
 use Rattle.generated_decks.proofs.NumberTexts.{number_of-decimal}
 use Rattle.generated_decks.proofs.Rows.{then-ok, entry-at, value-there, number-there, number-absent}
 use Rattle.generated_decks.proofs.FormFacts.{IsUsual}

@@ -22,10 +22,10 @@ use Rattle.deck_values.specs.FlagsAndIds.{flags_of, ids_of}
 use Rattle.deck_generator.specs.declared.form.Form.{Form}
 use Rattle.deck_generator.specs.Values.{negative_text, numbers_below}
 use Rattle.deck_generator.specs.Generated.{speed_text, field_settings}
-use Rattle.problem_set.specs.declared.problem_items.Moves.{Moves}
-use Rattle.problem_set.specs.declared.field_blocks.FieldBlock.{FieldBlock}
+use Rattle.deck_entries.specs.declared.entries.Moves.{Moves}
+use Rattle.deck_entries.specs.declared.field_blocks.FieldBlock.{FieldBlock}
 use Rattle.problem_set.specs.declared.packages.FieldTable.{FieldTable}
-use Rattle.problem_set.specs.FieldBlocks.{field_name, package_name, flags, ids, speed, order, spread, entry_amount, speeds, entry_pair, entry_amounts, moves, flags_and_ids, field_block, pool_field, name_form}
+use Rattle.deck_entries.specs.FieldBlocks.{field_name, package_name, flags, ids, speed, order, spread, entry_amount, speeds, entry_pair, entry_amounts, moves, flags_and_ids, field_block, pool_field, name_form}
 use Rattle.deck_values.specs.Reading.{◌>>=◌}
 use Rattle.problem_set.specs.Packages.{registered, unless}
 use Rattle.problem_set.specs.Rates.{upwards, downwards}

@@ -8,7 +8,7 @@ use Rattle.deck_generator.specs.declared.form.Form.{Form}
 use Rattle.deck_generator.specs.Generated.{first_cell}
 use Rattle.mesh_settings.specs.declared.words.FaceKind.{FaceKind}
 use Rattle.mesh_settings.specs.declared.words.FaceKind.TheVariants.{Periodic, Reflecting}
-use Rattle.problem_set.specs.declared.problem_items.StartBox.{StartBox}
+use Rattle.deck_entries.specs.declared.entries.StartBox.{StartBox}
 use Rattle.mesh_settings.specs.Mesh.{levels_in}
 use Rattle.mesh_settings.specs.Grid.{dims_of}
 use Rattle.problem_set.specs.Fitting.{sum_fits, rates_fit}

@@ -12,8 +12,8 @@ use Rattle.deck_generator.specs.declared.form.Form.{Form}
 use Rattle.deck_generator.specs.Forms.{small, large_form}
 use Rattle.deck_generator.specs.Generated.{drawn, box_name, speed_text, generated_of, generated}
 use Rattle.mesh_settings.specs.declared.block_kinds.BlockNames.{BlockNames}
-use Rattle.problem_set.specs.declared.problem_items.StartBox.{StartBox}
-use Rattle.problem_set.specs.declared.problem_items.Criterion.{Criterion}
+use Rattle.deck_entries.specs.declared.entries.StartBox.{StartBox}
+use Rattle.deck_entries.specs.declared.entries.Criterion.{Criterion}
 use Rattle.problem_set.specs.declared.repeated_blocks.CountedBlocks.{CountedBlocks}
 use Rattle.problem_set.specs.declared.repeated_blocks.RepeatedBlocks.{RepeatedBlocks}
 use Rattle.problem_set.specs.Settings.{Settings}
@@ -21,9 +21,9 @@ use Rattle.mesh_settings.specs.Mesh.{levels_in, mesh_keys}
 use Rattle.mesh_settings.specs.Grid.{dims_of, grid}
 use Rattle.mesh_settings.specs.Stepping.{stepping}
 use Rattle.mesh_settings.specs.BlockKinds.{statics, boxes, reactions, criteria, block_names}
-use Rattle.problem_set.specs.FieldBlocks.{field_block}
+use Rattle.deck_entries.specs.FieldBlocks.{field_block}
 use Rattle.problem_set.specs.Packages.{fields}
-use Rattle.problem_set.specs.EntryReaders.{start_box, reaction, criterion}
+use Rattle.deck_entries.specs.EntryReaders.{start_box, reaction, criterion}
 use Rattle.problem_set.specs.RepeatedBlocks.{counted_blocks, repeated_blocks}
 use Rattle.problem_set.specs.Rates.{box_total}
 use Rattle.problem_set.specs.Problems.{settings, settings_read, fitting, problem}

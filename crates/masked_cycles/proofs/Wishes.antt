@@ -5,8 +5,8 @@ use Rattle.std.proofs.lemmas.List.Elements.{All-get_or}
 use Rattle.morton_order.specs.declared.space.Loc.{Loc}
 use Rattle.problem_set.specs.Settings.{Settings}
 use Rattle.problem_set.specs.SettingsOf.{settings_of}
-use Rattle.problem_set.specs.SoundEntries.{IsCriterion}
-use Rattle.problem_set.specs.declared.problem_items.Criterion.{Criterion}
+use Rattle.deck_entries.specs.SoundEntries.{IsCriterion}
+use Rattle.deck_entries.specs.declared.entries.Criterion.{Criterion}
 use Rattle.mesh_rules.specs.declared.wish.Wish.{Wish}
 use Rattle.block_tree.specs.declared.tags.Tag.{Tag}
 use Rattle.mesh_rules.specs.Mesh.{Mesh, cell_at, stored}

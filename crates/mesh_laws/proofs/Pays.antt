@@ -15,9 +15,9 @@ use Rattle.package_fields.specs.declared.field.Field.{Field}
 use Rattle.package_fields.specs.declared.flag.Flag.TheVariants.{WithFluxes}
 use Rattle.package_fields.specs.Flags.{has}
 use Rattle.problem_set.specs.Settings.{Settings}
-use Rattle.problem_set.specs.SoundEntries.{IsFittingSum}
+use Rattle.problem_set.specs.SoundProblem.{IsFittingSum}
 use Rattle.problem_set.specs.Rates.{both_rates, downwards, left_rate, rate_sum, right_rate, upwards, velocity}
-use Rattle.problem_set.specs.declared.problem_items.Moves.{Moves}
+use Rattle.deck_entries.specs.declared.entries.Moves.{Moves}
 use Rattle.mesh_settings.specs.declared.words.FaceKind.{FaceKind}
 use Rattle.mesh_settings.specs.declared.words.FaceKind.TheVariants.{Periodic, Outflow, Reflecting, Inflow}
 use Rattle.mesh_rules.specs.Sums.{sum_over, sum_to}

@@ -3,7 +3,7 @@ use Rattle.std.specs.Prelude.{◌≡◌, ℕ, ◌<◌, ◌≤◌, Bool, cond, Is
 use Rattle.morton_order.specs.declared.space.Loc.{Loc}
 use Rattle.morton_order.specs.Space.{IsIn}
 use Rattle.problem_set.specs.Settings.{Settings}
-use Rattle.problem_set.specs.SoundEntries.{IsFittingSum}
+use Rattle.problem_set.specs.SoundProblem.{IsFittingSum}
 use Rattle.problem_set.specs.Rates.{rate_sum}
 use Rattle.mesh_rules.specs.Mesh.{IsMesh, Mesh, OnLeaf, cell_lattice, is_inner, stored}
 use Rattle.mesh_rules.specs.Fields.{field_at, moves_at}

@@ -7,8 +7,8 @@ use Rattle.block_tree.specs.declared.boxes.StaticBox.{StaticBox}
 use Rattle.block_tree.specs.Leaves.{roots}
 use Rattle.block_tree.specs.Least.{opening}
 use Rattle.problem_set.specs.Settings.{Settings}
-use Rattle.problem_set.specs.declared.problem_items.StartBox.{StartBox}
-use Rattle.problem_set.specs.declared.problem_items.StaticAt.{StaticAt}
+use Rattle.deck_entries.specs.declared.entries.StartBox.{StartBox}
+use Rattle.deck_entries.specs.declared.entries.StaticAt.{StaticAt}
 use Rattle.mesh_rules.specs.Sums.{sum_over}
 use Rattle.mesh_rules.specs.Mesh.{Mesh, filled}
 use Rattle.mesh_rules.specs.Fields.{field_count}

@@ -5,7 +5,7 @@ use Rattle.morton_order.specs.declared.space.Loc.{Loc}
 use Rattle.mesh_num.specs.Portion.{portion}
 use Rattle.package_fields.specs.Kernel.{Reacted}
 use Rattle.problem_set.specs.Settings.{Settings}
-use Rattle.problem_set.specs.declared.problem_items.Reaction.{Reaction}
+use Rattle.deck_entries.specs.declared.entries.Reaction.{Reaction}
 use Rattle.std.specs.Prelude.{length, replicate}
 use Rattle.mesh_rules.specs.Sums.{sum_over, table}
 use Rattle.mesh_rules.specs.Mesh.{Mesh, filled, stored, sum_on}

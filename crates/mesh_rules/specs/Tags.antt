@@ -8,7 +8,7 @@ use Rattle.block_tree.specs.declared.tags.Tag.{Tag}
 use Rattle.block_tree.specs.declared.tags.Tag.TheVariants.{Merge}
 use Rattle.block_tree.specs.declared.tags.Tag.TheVariants as tag
 use Rattle.problem_set.specs.Settings.{Settings}
-use Rattle.problem_set.specs.declared.problem_items.Criterion.{Criterion}
+use Rattle.deck_entries.specs.declared.entries.Criterion.{Criterion}
 use Rattle.mesh_settings.specs.declared.words.Method.{Method}
 use Rattle.mesh_settings.specs.declared.words.Method.TheVariants.{Peak, Jump}
 use Rattle.mesh_rules.specs.declared.wish.Wish.{Wish}

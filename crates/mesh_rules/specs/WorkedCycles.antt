@@ -4,7 +4,7 @@ use Rattle.problem_set.specs.Settings.{Settings}
 use Rattle.mesh_settings.specs.declared.words.Mode.TheVariants.{Adaptive}
 use Rattle.mesh_settings.specs.declared.words.Method.{Method}
 use Rattle.mesh_settings.specs.declared.words.Method.TheVariants.{Peak, Jump}
-use Rattle.problem_set.specs.declared.problem_items.Criterion.{Criterion}
+use Rattle.deck_entries.specs.declared.entries.Criterion.{Criterion}
 use Rattle.mesh_rules.specs.Mask.{Slot, absent, slot_at}
 use Rattle.mesh_rules.specs.Run.{Outcome, running, too_many_at, too_many_at_start}
 use Rattle.mesh_rules.specs.WorkedSettings.{at, at_speed, blocks_in, blocks_over, cell_box, drop_in, field, flow_in, leaves_in, moving_row, refined, row, run_of, staying, totals_in, two_blocks}

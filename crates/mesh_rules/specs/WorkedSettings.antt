@@ -11,9 +11,9 @@ use Rattle.problem_set.specs.Settings.{Settings}
 use Rattle.mesh_settings.specs.declared.words.Mode.TheVariants.{Plain}
 use Rattle.mesh_settings.specs.declared.words.FaceKind.{FaceKind}
 use Rattle.mesh_settings.specs.declared.words.FaceKind.TheVariants.{Reflecting}
-use Rattle.problem_set.specs.declared.problem_items.Moves.{Moves}
-use Rattle.problem_set.specs.declared.problem_items.StartBox.{StartBox}
-use Rattle.problem_set.specs.declared.problem_items.StaticAt.{StaticAt}
+use Rattle.deck_entries.specs.declared.entries.Moves.{Moves}
+use Rattle.deck_entries.specs.declared.entries.StartBox.{StartBox}
+use Rattle.deck_entries.specs.declared.entries.StaticAt.{StaticAt}
 use Rattle.mesh_rules.specs.Sums.{table}
 use Rattle.mesh_rules.specs.Reaction.{kernel_of}
 use Rattle.mesh_rules.specs.Mask.{blocks_with}

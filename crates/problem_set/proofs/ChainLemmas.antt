@@ -6,7 +6,7 @@ use Rattle.std.proofs.lemmas.List.{drop_all}
 use Rattle.std.proofs.lemmas.Slice.Eq.{bytes_eq-Decides}
 use Rattle.std.proofs.lemmas.Option.{slice_get_within}
 use Rattle.input_file.specs.Texts.{Text}
-use Rattle.problem_set.specs.declared.field_blocks.FieldBlock.{FieldBlock}
+use Rattle.deck_entries.specs.declared.field_blocks.FieldBlock.{FieldBlock}
 use Rattle.problem_set.specs.Packages.{blocks_of}
 use Rattle.problem_set.specs.PackageBlocks.{IsFirstFrom, AreChained}
 use Rattle.problem_set.proofs.RateLemmas.{drop_get}

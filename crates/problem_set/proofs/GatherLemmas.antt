@@ -7,10 +7,10 @@ use Rattle.std.proofs.lemmas.Slice.Eq.{bytes_eq-Decides}
 use Rattle.std.proofs.lemmas.Option.{slice_get_within, slice_get-get_or}
 use Rattle.input_file.specs.Texts.{Text}
 use Rattle.package_fields.specs.declared.field.Field.{Field}
-use Rattle.problem_set.specs.declared.problem_items.Moves.{Moves}
-use Rattle.problem_set.specs.declared.field_blocks.FieldBlock.{FieldBlock}
+use Rattle.deck_entries.specs.declared.entries.Moves.{Moves}
+use Rattle.deck_entries.specs.declared.field_blocks.FieldBlock.{FieldBlock}
 use Rattle.problem_set.specs.Kept.{kept_fields}
-use Rattle.problem_set.specs.FieldBlocks.{fields_of}
+use Rattle.deck_entries.specs.FieldBlocks.{fields_of}
 use Rattle.problem_set.specs.Packages.{blocks_of, moves_of, package_moves}
 use Rattle.problem_set.specs.PackageBlocks.{most_gathered, rest_from, IsFirstFrom, AreChained}
 use Rattle.problem_set.proofs.RateLemmas.{drop_get}

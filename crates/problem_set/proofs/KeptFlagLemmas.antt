@@ -16,8 +16,8 @@ use Rattle.package_fields.specs.Fields.{Registered, is_among, has_label}
 use Rattle.package_fields.specs.Registered.{field_fault, fields_fault, with_package}
 use Rattle.deck_values.specs.declared.fault.ProblemFault.{ProblemFault}
 use Rattle.deck_values.specs.declared.fault.ProblemFault.TheVariants.{NoMemory}
-use Rattle.problem_set.specs.declared.field_blocks.FieldBlock.{FieldBlock}
-use Rattle.problem_set.specs.FieldBlocks.{fields_of, dense_field, pool_field}
+use Rattle.deck_entries.specs.declared.field_blocks.FieldBlock.{FieldBlock}
+use Rattle.deck_entries.specs.FieldBlocks.{fields_of, dense_field, pool_field}
 use Rattle.problem_set.specs.Kept.{kept_fields, kept_flags}
 use Rattle.problem_set.specs.Packages.{blocks_of, package_of, package_moves, unless, with_added}
 use Rattle.problem_set.specs.PackageBlocks.{most_gathered}

@@ -1,4 +1,3 @@
-pub mod Prefix
 pub mod PackageLemmas
 pub mod KeptFlagLemmas
 pub mod RateLemmas

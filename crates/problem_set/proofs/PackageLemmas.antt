@@ -15,11 +15,11 @@ use Rattle.package_fields.specs.Flags.{has}
 use Rattle.package_fields.specs.Fields.{Registered, is_among}
 use Rattle.deck_values.specs.declared.fault.ProblemFault.{ProblemFault}
 use Rattle.deck_values.specs.declared.fault.ProblemFault.TheVariants.{NoMemory}
-use Rattle.problem_set.specs.declared.problem_items.Moves.{Moves}
-use Rattle.problem_set.specs.declared.field_blocks.FieldBlock.{FieldBlock}
+use Rattle.deck_entries.specs.declared.entries.Moves.{Moves}
+use Rattle.deck_entries.specs.declared.field_blocks.FieldBlock.{FieldBlock}
 use Rattle.deck_values.specs.Reading.{◌>>=◌}
-use Rattle.problem_set.specs.SoundEntries.{IsMoves}
-use Rattle.problem_set.specs.FieldBlocks.{pool_field, fields_of}
+use Rattle.deck_entries.specs.SoundEntries.{IsMoves}
+use Rattle.deck_entries.specs.FieldBlocks.{pool_field, fields_of}
 use Rattle.problem_set.specs.Kept.{kept_fields, kept_flags}
 use Rattle.problem_set.specs.PackageBlocks.{IsFirstFrom}
 use Rattle.problem_set.specs.Packages.{with_name, first_named, blocks_of, package_of, moves_of, package_moves, with_added, all_added, package_names, unless, with_package_once, moves_once, registered}

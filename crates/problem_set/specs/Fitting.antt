@@ -3,7 +3,7 @@ use Rattle.std.specs.Prelude.{◌==◌, ◌*◌, nat_le, if◌then◌else◌, �
 use Rattle.package_fields.specs.declared.field.Field.{Field}
 use Rattle.deck_values.specs.declared.fault.ProblemFault.{ProblemFault}
 use Rattle.deck_values.specs.declared.fault.ProblemFault.TheVariants.{Rates}
-use Rattle.problem_set.specs.declared.problem_items.Moves.{Moves}
+use Rattle.deck_entries.specs.declared.entries.Moves.{Moves}
 use Rattle.problem_set.specs.Rates.{rate_sum}
 
 -- whether rates of this sum leave every total at least 0: by a scheme of order 2 a cell may count for half as much again

@@ -4,8 +4,8 @@ use Rattle.package_fields.specs.declared.field.Field.{Field}
 use Rattle.package_fields.specs.declared.flag.Flag.{Flag}
 use Rattle.package_fields.specs.declared.flag.Flag.TheVariants.{Sparse}
 use Rattle.package_fields.specs.Flags.{has, permitted}
-use Rattle.problem_set.specs.declared.field_blocks.FieldBlock.{FieldBlock}
-use Rattle.problem_set.specs.FieldBlocks.{dense_field, pool_field}
+use Rattle.deck_entries.specs.declared.field_blocks.FieldBlock.{FieldBlock}
+use Rattle.deck_entries.specs.FieldBlocks.{dense_field, pool_field}
 
 -- flags that are permitted together, and else none, which are not permitted either
 abbrev pub kept_flags : List Flag → List Flag

@@ -1,9 +1,7 @@
 pub mod Kept
 pub mod Rates
 pub mod Settings
-pub mod SoundEntries
-pub mod EntryReaders
-pub mod FieldBlocks
+pub mod SoundProblem
 pub mod Packages
 pub mod PackageBlocks
 pub mod Fitting

@@ -10,12 +10,12 @@ use Rattle.package_fields.specs.Fields.{Registered, is_among}
 use Rattle.package_fields.specs.Registered.{package_fault, with_package}
 use Rattle.deck_values.specs.declared.fault.ProblemFault.{ProblemFault}
 use Rattle.deck_values.specs.declared.fault.ProblemFault.TheVariants.{Fields}
-use Rattle.problem_set.specs.declared.problem_items.Moves.{Moves}
-use Rattle.problem_set.specs.declared.field_blocks.FieldBlock.{FieldBlock}
+use Rattle.deck_entries.specs.declared.entries.Moves.{Moves}
+use Rattle.deck_entries.specs.declared.field_blocks.FieldBlock.{FieldBlock}
 use Rattle.problem_set.specs.declared.packages.FieldTable.{FieldTable}
 use Rattle.deck_values.specs.Reading.{◌>>=◌, each}
 use Rattle.deck_values.specs.BlockNames.{names_of}
-use Rattle.problem_set.specs.FieldBlocks.{field_block, fields_of}
+use Rattle.deck_entries.specs.FieldBlocks.{field_block, fields_of}
 
 -- the names and one more, unless it is among them
 abbrev pub with_name : List Text → Text → List Text

@@ -16,7 +16,7 @@ use Rattle.mesh_settings.specs.Stepping.{stepping}
 use Rattle.problem_set.specs.RepeatedBlocks.{repeated_blocks}
 use Rattle.problem_set.specs.Fitting.{rates_fit}
 use Rattle.problem_set.specs.Rates.{bound}
-use Rattle.problem_set.specs.SoundEntries.{greatest_total}
+use Rattle.mesh_settings.specs.Limits.{greatest_total}
 
 -- the settings that the sections of a deck come to
 abbrev pub settings : Mesh → Grid → Stepping → RepeatedBlocks → Settings

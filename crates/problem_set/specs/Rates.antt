@@ -5,8 +5,8 @@ use Rattle.mesh_num.specs.Rate.{rate}
 use Rattle.package_fields.specs.declared.field.Field.{Field}
 use Rattle.package_fields.specs.declared.flag.Flag.TheVariants.{FillGhost, WithFluxes}
 use Rattle.package_fields.specs.Flags.{has}
-use Rattle.problem_set.specs.declared.problem_items.Moves.{Moves}
-use Rattle.problem_set.specs.declared.problem_items.StartBox.{StartBox}
+use Rattle.deck_entries.specs.declared.entries.Moves.{Moves}
+use Rattle.deck_entries.specs.declared.entries.StartBox.{StartBox}
 use Rattle.mesh_settings.specs.declared.words.FaceKind.{FaceKind}
 use Rattle.mesh_settings.specs.declared.words.FaceKind.TheVariants.{Outflow}
 use Rattle.mesh_settings.specs.Mesh.{is_inflow}

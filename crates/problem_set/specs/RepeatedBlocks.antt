@@ -10,7 +10,7 @@ use Rattle.problem_set.specs.declared.repeated_blocks.RepeatedBlocks.{RepeatedBl
 use Rattle.deck_values.specs.Reading.{◌>>=◌, each}
 use Rattle.mesh_settings.specs.BlockKinds.{block_names}
 use Rattle.problem_set.specs.Packages.{fields}
-use Rattle.problem_set.specs.EntryReaders.{static_at, start_box, reaction, criterion}
+use Rattle.deck_entries.specs.EntryReaders.{static_at, start_box, reaction, criterion}
 
 -- the blocks of the four kinds that are counted, kind by kind
 unfoldable pub counted_blocks : Blocks → List ℕ → ℕ → List Field → BlockNames → Result CountedBlocks ProblemFault

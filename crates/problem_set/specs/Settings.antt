@@ -4,11 +4,11 @@ use Rattle.morton_order.specs.declared.space.Shape.{Shape}
 use Rattle.package_fields.specs.Fields.{Registered}
 use Rattle.mesh_settings.specs.declared.words.Mode.{Mode}
 use Rattle.mesh_settings.specs.declared.words.FaceKind.{FaceKind}
-use Rattle.problem_set.specs.declared.problem_items.Moves.{Moves}
-use Rattle.problem_set.specs.declared.problem_items.StaticAt.{StaticAt}
-use Rattle.problem_set.specs.declared.problem_items.StartBox.{StartBox}
-use Rattle.problem_set.specs.declared.problem_items.Reaction.{Reaction}
-use Rattle.problem_set.specs.declared.problem_items.Criterion.{Criterion}
+use Rattle.deck_entries.specs.declared.entries.Moves.{Moves}
+use Rattle.deck_entries.specs.declared.entries.StaticAt.{StaticAt}
+use Rattle.deck_entries.specs.declared.entries.StartBox.{StartBox}
+use Rattle.deck_entries.specs.declared.entries.Reaction.{Reaction}
+use Rattle.deck_entries.specs.declared.entries.Criterion.{Criterion}
 
 -- the settings of a run: those of `Problem`, field by field
 pub record Settings : Type 0 where

@@ -2,7 +2,8 @@
 
 ghost use Rattle.std.specs.Prelude.{◌≡◌, All, length};
 ghost use Rattle.mesh_settings.specs.Sound.{IsSize, IsRefining, IsFaces, IsGrid, IsStepping};
-ghost use Rattle.problem_set.specs.SoundEntries.{IsMoves, AreEntries};
+ghost use Rattle.deck_entries.specs.SoundEntries.{IsMoves};
+ghost use Rattle.problem_set.specs.SoundProblem.{AreEntries};
 
 use crate::repeated_blocks::{RepeatedBlocks, read_repeated_blocks};
 use deck_values::ProblemFault;

@@ -5,10 +5,10 @@ ghost use Rattle.std.specs.List.{slice_index_or, range_with_len};
 ghost use Rattle.mesh_settings.specs.Mesh.{cells_of, is_inflow};
 ghost use Rattle.problem_set.specs.Rates.{face_cells, face_inflow, field_inflow, stage_inflow, span, box_total};
 ghost use Rattle.mesh_settings.specs.Sound.{IsSize, IsFaces};
-ghost use Rattle.problem_set.specs.SoundEntries.{IsMoves, IsBox};
+ghost use Rattle.deck_entries.specs.SoundEntries.{IsMoves, IsBox};
 ghost use Rattle.mesh_settings.specs.Limits.{greatest_size, most_boxes, most_fields};
 
-use crate::problem_items::{Moves, StartBox};
+use deck_entries::{Moves, StartBox};
 use crate::rates::{field_at, moves_at};
 use mesh_settings::{FaceKind, Faces};
 use package_fields::{Field, Flag, has_flag};

@@ -8,22 +8,18 @@
 #![tactic(auto)]
 
 mod deck_sections;
-mod entry_readers;
-mod field_blocks;
-mod field_form;
 mod fitting;
 mod package_blocks;
 mod packages;
 mod problem;
-mod problem_items;
 mod problem_reader;
 mod rates;
 mod repeated_blocks;
 
+pub use deck_entries::{Criterion, Moves, Reaction, StartBox, StaticAt};
 pub use deck_generator::generate;
 pub use deck_values::ProblemFault;
 pub use mesh_settings::{FaceKind, Faces, Method, Mode};
 pub use problem::Problem;
-pub use problem_items::{Criterion, Moves, Reaction, StartBox, StaticAt};
 pub use problem_reader::read_problem;
 pub use rates::Rates;

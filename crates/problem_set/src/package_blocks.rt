@@ -7,7 +7,7 @@ ghost use Rattle.deck_values.specs.declared.fault.ProblemFault.TheVariants.{NoMe
 ghost use Rattle.input_file.specs.Texts.{Text};
 ghost use Rattle.problem_set.specs.PackageBlocks.{AreChained, place_in};
 
-use crate::field_blocks::FieldBlock;
+use deck_entries::FieldBlock;
 use deck_values::ProblemFault;
 use package_fields::Name;
 use std::alloc::Global;

@@ -4,17 +4,15 @@ ghost use Rattle.std.specs.Prelude.{ℕ, Option, ◌≡◌, ◌<◌, ◌-◌, �
 ghost use Rattle.std.specs.List.{flat_map};
 ghost use Rattle.deck_values.specs.declared.fault.ProblemFault.TheVariants.{NoMemory as no_memory};
 ghost use Rattle.deck_values.specs.Reading.{Answers, Gives};
-ghost use Rattle.problem_set.specs.FieldBlocks.{pool_field, dense_field};
+ghost use Rattle.deck_entries.specs.FieldBlocks.{pool_field, dense_field};
 ghost use Rattle.problem_set.specs.Kept.{kept_fields, kept_flags};
 ghost use Rattle.package_fields.specs.Fields.{is_among};
 ghost use Rattle.problem_set.specs.PackageBlocks.{most_gathered, AreChained, IsFirstFrom};
 ghost use Rattle.problem_set.specs.Packages.{blocks_of, package_of, moves_of, package_moves, with_added, with_package_once, moves_once, registered, fields};
-ghost use Rattle.problem_set.specs.SoundEntries.{IsMoves};
+ghost use Rattle.deck_entries.specs.SoundEntries.{IsMoves};
 
-use crate::field_blocks::FieldBlock;
-use crate::field_form::FieldForm;
 use crate::package_blocks::{block_at, next_blocks};
-use crate::problem_items::Moves;
+use deck_entries::{FieldBlock, FieldForm, Moves};
 use deck_values::{ProblemFault, names_of, read_blocks};
 use input_file::Deck;
 use mesh_settings::MOST_FIELDS;

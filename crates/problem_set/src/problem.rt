@@ -1,10 +1,10 @@
 ghost use Rattle.std.specs.Prelude.{◌≡◌, ◌≤◌, ◌<◌, length, slice_get, Some};
 ghost use Rattle.std.proofs.Props.{props};
 ghost use Rattle.mesh_settings.specs.Sound.{IsSize, IsRefining, IsFaces, IsGrid, IsStepping};
-ghost use Rattle.problem_set.specs.SoundEntries.{AreFields, AreEntries, HaveFittingRates, HasBound};
+ghost use Rattle.problem_set.specs.SoundProblem.{AreFields, AreEntries, HaveFittingRates, HasBound};
 
-use crate::problem_items::{Criterion, Moves, Reaction, StartBox, StaticAt};
-use crate::rates::Rates;
+use deck_entries::{Criterion, Moves, Reaction, StartBox, StaticAt};
+use crate::rates::{Rates, rates_of};
 use mesh_settings::{Faces, Mode};
 use morton_order::Shape;
 use package_fields::{Flag, Items, Registry};
@@ -86,7 +86,7 @@ impl Problem {
     {
         let moves = self.moves.as_slice()[field as usize];
         if self.fields.has(field, Flag::WithFluxes) {
-            moves.rates(axis, level)
+            rates_of(&moves, axis, level)
         } else {
             Rates { right: 0, left: 0 }
         }

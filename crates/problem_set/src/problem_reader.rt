@@ -4,7 +4,8 @@ ghost use Rattle.std.specs.Prelude.{◌≡◌, ◌≤◌, ◌-◌, ◌*◌, OnOk
 ghost use Rattle.std.specs.List.{zip};
 ghost use Rattle.deck_values.specs.Reading.{Answers, Gives};
 ghost use Rattle.problem_set.specs.Fitting.{rates_fit};
-ghost use Rattle.problem_set.specs.SoundEntries.{HaveFittingRates, greatest_total};
+ghost use Rattle.problem_set.specs.SoundProblem.{HaveFittingRates};
+ghost use Rattle.mesh_settings.specs.Limits.{greatest_total};
 ghost use Rattle.problem_set.specs.Problems.{bound_of, fitting, problem};
 ghost use Rattle.problem_set.specs.SettingsOf.{sections_settings, settings_of};
 

@@ -7,10 +7,10 @@ ghost use Rattle.deck_values.specs.Reading.{Gives};
 ghost use Rattle.deck_values.specs.declared.fault.ProblemFault.TheVariants.{NoMemory as no_memory};
 ghost use Rattle.problem_set.specs.Rates.{upwards, downwards, velocity, right_rate, left_rate, rate_sum};
 ghost use Rattle.problem_set.specs.Fitting.{sum_fits, rates_fit};
-ghost use Rattle.problem_set.specs.SoundEntries.{IsMoves};
+ghost use Rattle.deck_entries.specs.SoundEntries.{IsMoves};
 ghost use Rattle.mesh_settings.specs.Limits.{greatest_factor};
 
-use crate::problem_items::Moves;
+use deck_entries::Moves;
 use deck_values::ProblemFault;
 use mesh_num::rate;
 use package_fields::{Field, Flag, Name, has_flag};
@@ -41,23 +41,21 @@ fn downwards(v: i64) -> u64
     if v < 0 { v.unsigned_abs() } else { 0 }
 }
 
-impl Moves {
-    /// The rates along an axis at a level of a field that has fluxes.
-    #[tactic(auto, using(crate::proofs::RateLemmas::rate_at_most))]
-    pub fn rates(&self, axis: u32, level: u32) -> Rates
-        requires sound { IsMoves self.now }
-        requires axis { axis < 3 }
-        requires level { level ≤ 10 }
-        ensures right { result.right ≡ rate_of (upwards (velocity self.now axis)) self.now.k level }
-        ensures left { result.left ≡ rate_of (downwards (velocity self.now axis)) self.now.k level }
-        ensures right_bound { result.right ≤ 2000000000000000 }
-        ensures left_bound { result.left ≤ 2000000000000000 }
-    {
-        let v = self.v[axis as usize];
-        Rates {
-            right: rate(upwards(v), self.k, level),
-            left: rate(downwards(v), self.k, level),
-        }
+/// The rates along an axis at a level of a field that has fluxes.
+#[tactic(auto, using(crate::proofs::RateLemmas::rate_at_most))]
+pub fn rates_of(moves: &Moves, axis: u32, level: u32) -> Rates
+    requires sound { IsMoves moves.now }
+    requires axis { axis < 3 }
+    requires level { level ≤ 10 }
+    ensures right { result.right ≡ rate_of (upwards (velocity moves.now axis)) moves.now.k level }
+    ensures left { result.left ≡ rate_of (downwards (velocity moves.now axis)) moves.now.k level }
+    ensures right_bound { result.right ≤ 2000000000000000 }
+    ensures left_bound { result.left ≤ 2000000000000000 }
+{
+    let v = moves.v[axis as usize];
+    Rates {
+        right: rate(upwards(v), moves.k, level),
+        left: rate(downwards(v), moves.k, level),
     }
 }
 
@@ -72,7 +70,7 @@ fn field_rates(field: &Field, moves: &Moves, axis: u32, level: u32) -> Rates
     ensures left_bound { result.left ≤ 2000000000000000 }
 {
     if has_flag(field.flags.as_slice(), Flag::WithFluxes) {
-        moves.rates(axis, level)
+        rates_of(moves, axis, level)
     } else {
         Rates { right: 0, left: 0 }
     }

@@ -4,12 +4,14 @@ ghost use Rattle.std.specs.Prelude.{◌≡◌, ◌≤◌, IfOk, All, length};
 ghost use Rattle.deck_values.specs.Reading.{Gives};
 ghost use Rattle.problem_set.specs.RepeatedBlocks.{counted_blocks, repeated_blocks};
 ghost use Rattle.mesh_settings.specs.Sound.{IsSize};
-ghost use Rattle.problem_set.specs.SoundEntries.{IsMoves, AreEntries};
+ghost use Rattle.deck_entries.specs.SoundEntries.{IsMoves};
+ghost use Rattle.problem_set.specs.SoundProblem.{AreEntries};
 ghost use Rattle.mesh_settings.specs.Limits.{greatest_levels, most_statics, most_boxes, most_reactions, most_criteria};
 
-use crate::entry_readers::{BoxForm, CriterionForm, ReactionForm, StaticForm};
 use crate::packages::{FieldTable, read_fields};
-use crate::problem_items::{Criterion, Reaction, StartBox, StaticAt};
+use deck_entries::{
+    BoxForm, Criterion, CriterionForm, Reaction, ReactionForm, StartBox, StaticAt, StaticForm,
+};
 use deck_values::{ProblemFault, read_blocks};
 use input_file::Deck;
 use mesh_settings::{BlockNames, Mode, find_blocks};

@@ -7,7 +7,7 @@ use Rattle.std.proofs.lemmas.List.Elements.{All-from_get_or, All-get_or, All-tak
 use Rattle.package_fields.specs.declared.flow.Flow.{Flow}
 use Rattle.package_fields.specs.Flow.{IsBelow, no_flow}
 use Rattle.package_fields.specs.Kernel.{Reacted, with_parts, with_reacted}
-use Rattle.problem_set.specs.declared.problem_items.Reaction.{Reaction}
+use Rattle.deck_entries.specs.declared.entries.Reaction.{Reaction}
 use Rattle.mesh_rules.specs.Reaction.{added, after_reaction, before_reactions, moved_by, react_cell, taken}
 use Rattle.react_kernel.specs.Code.{CanReact}
 use Rattle.react_kernel.specs.Steps.{Moves, only_at}

@@ -1,7 +1,7 @@
 -- The code of a kernel of reactions, and what it does.
 use Rattle.std.specs.Prelude.{ℕ, ◌<◌, ◌≤◌, List, [], ◌∷◌, length, All}
 use Rattle.package_fields.specs.Kernel.{KernelLaws, Reacted}
-use Rattle.problem_set.specs.declared.problem_items.Reaction.{Reaction}
+use Rattle.deck_entries.specs.declared.entries.Reaction.{Reaction}
 use Rattle.mesh_rules.specs.Reaction.{before_reactions, react_cell}
 
 -- a reaction of a cell with so many fields: a proper fraction of one field becomes another

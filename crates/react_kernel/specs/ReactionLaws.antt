@@ -6,7 +6,7 @@ use Rattle.std.proofs.Math.Nat.{mul-le-mul_right}
 use Rattle.std.proofs.lemmas.List.{length-set, get_or-replicate, length-replicate}
 use Rattle.std.proofs.lemmas.List.Elements.{All-head, All-tail}
 use Rattle.package_fields.specs.Kernel.{KernelLaws, Reacted, nothing}
-use Rattle.problem_set.specs.declared.problem_items.Reaction.{Reaction}
+use Rattle.deck_entries.specs.declared.entries.Reaction.{Reaction}
 use Rattle.mesh_rules.specs.Reaction.{added, after_reaction, before_reactions, moved_by, react_cell, taken}
 use Rattle.react_kernel.specs.Code.{CanReact, ReactionsLaw, code_of, reactions_in, reacts, spelled}
 use Rattle.react_kernel.specs.Steps.{only_at}

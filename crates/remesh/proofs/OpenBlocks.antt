@@ -16,7 +16,7 @@ use Rattle.alloc_epochs.specs.Shelf.{place_on}
 use Rattle.field_bufs.specs.declared.buf.FieldBuf.{FieldBuf}
 use Rattle.field_bufs.specs.Buffers.{zeros}
 use Rattle.problem_set.specs.Settings.{Settings}
-use Rattle.problem_set.specs.declared.problem_items.StartBox.{StartBox}
+use Rattle.deck_entries.specs.declared.entries.StartBox.{StartBox}
 use Rattle.mesh_rules.specs.Fields.{field_count, is_sparse}
 use Rattle.dense_mesh.proofs.Tables.{table_by, table_length}
 use Rattle.dense_remesh.specs.StartBoxes.{opening_list}

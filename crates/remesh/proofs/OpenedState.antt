@@ -13,7 +13,7 @@ use Rattle.alloc_epochs.specs.Shelf.{place_on}
 use Rattle.field_bufs.specs.declared.buf.FieldBuf.{FieldBuf}
 use Rattle.package_fields.specs.Kernel.{Reacted, nothing}
 use Rattle.problem_set.specs.declared.problem.Problem.{Problem}
-use Rattle.problem_set.specs.declared.problem_items.StartBox.{StartBox}
+use Rattle.deck_entries.specs.declared.entries.StartBox.{StartBox}
 use Rattle.problem_set.specs.Settings.{Settings}
 use Rattle.problem_set.specs.SettingsOf.{settings_of}
 use Rattle.mesh_rules.specs.Cycle.{State}

@@ -8,7 +8,7 @@ use Rattle.sparse_pool.specs.Idle.{idle}
 use Rattle.alloc_epochs.specs.Shelf.{place_on}
 use Rattle.field_bufs.specs.declared.buf.FieldBuf.{FieldBuf}
 use Rattle.problem_set.specs.Settings.{Settings}
-use Rattle.problem_set.specs.declared.problem_items.StartBox.{StartBox}
+use Rattle.deck_entries.specs.declared.entries.StartBox.{StartBox}
 use Rattle.mesh_rules.specs.Fields.{is_sparse}
 use Rattle.dense_remesh.specs.StartBoxes.{opening_list}
 use Rattle.cell_block.specs.State.{Entry, HasLayout, Stored, entry_at, epoch_at, leaf_count}

@@ -7,11 +7,11 @@ use Rattle.morton_order.specs.declared.space.Shape.{Shape}
 use Rattle.package_fields.specs.declared.field.Field.{Field}
 use Rattle.package_fields.specs.Kernel.{KernelLaws, Reacted}
 use Rattle.problem_set.specs.Settings.{Settings}
-use Rattle.problem_set.specs.declared.problem_items.Moves.{Moves}
+use Rattle.deck_entries.specs.declared.entries.Moves.{Moves}
 use Rattle.problem_set.specs.declared.problem.Problem.{Problem}
 use Rattle.problem_set.specs.SettingsOf.{settings_of}
 use Rattle.problem_set.specs.Rates.{rate_sum}
-use Rattle.problem_set.specs.SoundEntries.{IsFittingSum}
+use Rattle.problem_set.specs.SoundProblem.{IsFittingSum}
 use Rattle.mesh_rules.specs.Sums.{sum_over, sum_to}
 use Rattle.mesh_rules.specs.Mesh.{total_of}
 use Rattle.mesh_rules.specs.Fields.{field_at, field_count}

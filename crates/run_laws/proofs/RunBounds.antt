@@ -7,11 +7,11 @@ use Rattle.std.proofs.lemmas.List.Elements.{All-get_or}
 use Rattle.morton_order.specs.declared.space.Loc.{Loc}
 use Rattle.morton_order.specs.Space.{IsIn}
 use Rattle.package_fields.specs.Kernel.{KernelLaws, Reacted}
-use Rattle.problem_set.specs.declared.problem_items.StartBox.{StartBox}
+use Rattle.deck_entries.specs.declared.entries.StartBox.{StartBox}
 use Rattle.problem_set.specs.declared.problem.Problem.{Problem}
 use Rattle.problem_set.specs.SettingsOf.{settings_of}
 use Rattle.problem_set.specs.Rates.{box_total}
-use Rattle.problem_set.specs.SoundEntries.{IsBox}
+use Rattle.deck_entries.specs.SoundEntries.{IsBox}
 use Rattle.mesh_rules.specs.Mesh.{OnLeaf, cell_lattice, total_of}
 use Rattle.mesh_rules.specs.Look.{look}
 use Rattle.mesh_rules.specs.Fields.{field_count}

@@ -14,10 +14,10 @@ use Rattle.morton_order.specs.Space.{is_inside, same_loc}
 use Rattle.package_fields.specs.Kernel.{Reacted}
 use Rattle.problem_set.specs.Settings.{Settings}
 use Rattle.problem_set.specs.declared.problem.Problem.{Problem}
-use Rattle.problem_set.specs.declared.problem_items.Criterion.{Criterion}
-use Rattle.problem_set.specs.declared.problem_items.StaticAt.{StaticAt}
+use Rattle.deck_entries.specs.declared.entries.Criterion.{Criterion}
+use Rattle.deck_entries.specs.declared.entries.StaticAt.{StaticAt}
 use Rattle.problem_set.specs.SettingsOf.{settings_of}
-use Rattle.problem_set.specs.SoundEntries.{IsCriterion, IsStatic}
+use Rattle.deck_entries.specs.SoundEntries.{IsCriterion, IsStatic}
 use Rattle.block_tree.specs.declared.boxes.StaticBox.{StaticBox}
 use Rattle.block_tree.specs.declared.tags.Tag.{Tag}
 use Rattle.block_tree.specs.Tree.{IsBalanced, IsTree}

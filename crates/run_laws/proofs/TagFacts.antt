@@ -10,8 +10,8 @@ use Rattle.block_tree.specs.declared.tags.Tag.{Tag}
 use Rattle.block_tree.specs.declared.tags.Tag.TheVariants as tag
 use Rattle.block_tree.specs.Tree.{is_listed}
 use Rattle.block_tree.specs.Next.{is_refine}
-use Rattle.problem_set.specs.declared.problem_items.Criterion.{Criterion}
-use Rattle.problem_set.specs.SoundEntries.{IsCriterion}
+use Rattle.deck_entries.specs.declared.entries.Criterion.{Criterion}
+use Rattle.deck_entries.specs.SoundEntries.{IsCriterion}
 use Rattle.mesh_rules.specs.declared.wish.Wish.{Wish}
 use Rattle.mesh_rules.specs.declared.wish.Wish.TheVariants.{Refine, Same, Derefine}
 use Rattle.mesh_rules.specs.Tags.{at_root, stronger, strongest, tag_of, wish_by}

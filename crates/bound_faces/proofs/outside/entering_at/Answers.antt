@@ -1,7 +1,7 @@
 use Rattle.std.proofs.Common.{Some, true, false, ap, ◌∙◌, ℕ, List, [], get_or, arith}
 use Rattle.std.specs.List.{slice_index_or}
 use Rattle.problem_set.specs.SettingsOf.{settings_of}
-use Rattle.problem_set.specs.declared.problem_items.Moves.{Moves}
+use Rattle.deck_entries.specs.declared.entries.Moves.{Moves}
 use Rattle.mesh_rules.specs.Fields.{side_number}
 use Rattle.bound_faces.proofs.Entering.{at_any, entering_not, entering_when, ghosts_are}
 use Rattle.bound_faces.proofs.outside.entering_at.Goals as goal

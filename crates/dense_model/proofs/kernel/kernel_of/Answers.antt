@@ -1,5 +1,5 @@
 use Rattle.std.proofs.Common.{◌∙◌, List, ap}
-use Rattle.problem_set.specs.declared.problem_items.Reaction.{Reaction}
+use Rattle.deck_entries.specs.declared.entries.Reaction.{Reaction}
 use Rattle.react_kernel.specs.Code.{code_of, reacts}
 use Rattle.dense_model.proofs.Reactions.{code_reacts}
 use Rattle.dense_model.proofs.kernel.kernel_of.Goals as goal

@@ -1,6 +1,6 @@
 use Rattle.std.proofs.Common.{◌≡◌, ◌≤◌, ◌∙◌, List, ap, sym, subst}
 use Rattle.std.proofs.lemmas.Result.{IfOk-weaker}
-use Rattle.problem_set.specs.declared.problem_items.StartBox.{StartBox}
+use Rattle.deck_entries.specs.declared.entries.StartBox.{StartBox}
 use Rattle.std.specs.List.{filter}
 use Rattle.dense_remesh.specs.StartBoxes.{amounts, meets, opening_list, root_of}
 use Rattle.dense_remesh.proofs.Spreads.{filtered_amounts, near_list}

@@ -1,7 +1,7 @@
 use Rattle.std.proofs.Common.{◌≡◌, [], List, length, replicate, ap, sym, ◌∙◌, arith}
 use Rattle.std.proofs.lemmas.Bool.Decides.{nat_tests}
 use Rattle.std.proofs.lemmas.Result.{IfOk-weaker}
-use Rattle.problem_set.specs.declared.problem_items.StartBox.{StartBox}
+use Rattle.deck_entries.specs.declared.entries.StartBox.{StartBox}
 use Rattle.dense_remesh.specs.StartBoxes.{amounts, opening_list}
 use Rattle.dense_remesh.proofs.Pushed.{no_item}
 use Rattle.dense_remesh.proofs.Spreads.{empty_list}

@@ -1,7 +1,7 @@
 use Rattle.std.proofs.Common.{◌≡◌, ◌==◌, ◌<◌, ◌++◌, ◌∷◌, [], ℕ, List, length, map, ap, ◌∙◌, arith}
 use Rattle.std.specs.List.{filter}
 use Rattle.block_tree.specs.Blocks.{leaves}
-use Rattle.problem_set.specs.declared.problem_items.StartBox.{StartBox}
+use Rattle.deck_entries.specs.declared.entries.StartBox.{StartBox}
 use Rattle.problem_set.specs.SettingsOf.{settings_of}
 use Rattle.mesh_rules.specs.Fields.{field_count}
 use Rattle.dense_remesh.specs.StartBoxes.{amounts, opening_list}

@@ -1,7 +1,7 @@
 use Rattle.std.proofs.Common.{◌≡◌, ◌==◌, ℕ, ◌<◌, List, length, map}
 use Rattle.std.specs.List.{filter, slice_index_or}
 use Rattle.block_tree.specs.Blocks.{leaves}
-use Rattle.problem_set.specs.declared.problem_items.StartBox.{StartBox}
+use Rattle.deck_entries.specs.declared.entries.StartBox.{StartBox}
 use Rattle.dense_remesh.specs.StartBoxes.{opening_list}
 use Rattle.dense_remesh.proofs.opening.opening_lists.Given as goal
 

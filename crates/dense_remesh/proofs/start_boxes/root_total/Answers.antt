@@ -1,6 +1,6 @@
 use Rattle.std.proofs.Common.{arith, ap, List}
 use Rattle.std.proofs.lemmas.List.{drop_all}
-use Rattle.problem_set.specs.declared.problem_items.StartBox.{StartBox}
+use Rattle.deck_entries.specs.declared.entries.StartBox.{StartBox}
 use Rattle.dense_remesh.specs.StartBoxes.{cell_of, root_total}
 use Rattle.dense_remesh.proofs.StartBoxes.{boxes_fit, boxes_held, boxes_passed}
 use Rattle.dense_remesh.proofs.start_boxes.root_total.Goals as goal

@@ -5,7 +5,7 @@ use Rattle.morton_order.specs.declared.space.Loc.{Loc}
 use Rattle.morton_order.proofs.Lists.{all_push}
 use Rattle.block_tree.specs.declared.tags.Tag.TheVariants.{Same}
 use Rattle.block_tree.specs.Blocks.{leaves}
-use Rattle.problem_set.specs.declared.problem_items.Criterion.{Criterion}
+use Rattle.deck_entries.specs.declared.entries.Criterion.{Criterion}
 use Rattle.mesh_rules.specs.declared.wish.Wish.{Wish}
 use Rattle.mesh_rules.specs.Tags.{counted, tag_of}
 use Rattle.dense_mask.proofs.Leaves.{origin}

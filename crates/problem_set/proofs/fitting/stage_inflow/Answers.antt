@@ -2,7 +2,7 @@ use Rattle.std.proofs.Common.{◌≤◌, length, arith, ap, ◌∙◌}
 use Rattle.std.specs.List.{sum_by, zip}
 use Rattle.std.proofs.lemmas.List.{take_all}
 use Rattle.package_fields.specs.declared.field.Field.{Field}
-use Rattle.problem_set.specs.declared.problem_items.Moves.{Moves}
+use Rattle.deck_entries.specs.declared.entries.Moves.{Moves}
 use Rattle.problem_set.specs.Rates.{field_inflow}
 use Rattle.problem_set.proofs.RateLemmas.{sum_zip_more, length-zip}
 use Rattle.problem_set.proofs.fitting.stage_inflow.Goals as goal

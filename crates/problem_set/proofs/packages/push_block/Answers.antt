@@ -3,9 +3,9 @@ use Rattle.std.proofs.lemmas.Result.{on_ok_weaker}
 use Rattle.package_fields.specs.declared.field.Field.{Field}
 use Rattle.package_fields.specs.declared.flag.Flag.{Flag}
 use Rattle.package_fields.specs.declared.flag.Flag.TheVariants.{Sparse}
-use Rattle.problem_set.specs.FieldBlocks.{pool_field}
+use Rattle.deck_entries.specs.FieldBlocks.{pool_field}
 use Rattle.package_fields.specs.Flags.{has}
-use Rattle.problem_set.specs.declared.problem_items.Moves.{Moves}
+use Rattle.deck_entries.specs.declared.entries.Moves.{Moves}
 use Rattle.problem_set.specs.PackageBlocks.{most_gathered}
 use Rattle.problem_set.proofs.PackageLemmas.{first_of_pool, first_moves_of_pool}
 use Rattle.problem_set.proofs.packages.push_block.Goals as goal

@@ -1,5 +1,5 @@
 use Rattle.std.proofs.Common.{◌≡◌, ◌++◌, map, take}
-use Rattle.problem_set.specs.FieldBlocks.{pool_field}
+use Rattle.deck_entries.specs.FieldBlocks.{pool_field}
 use Rattle.problem_set.proofs.packages.push_pool.Given as goal
 
 abbrev pub invariant-loop-id : goal.invariant-loop-id

@@ -6,7 +6,7 @@ use Rattle.morton_order.specs.declared.space.Loc.{Loc}
 use Rattle.block_tree.specs.Blocks.{TreeOfBlocks, leaves}
 use Rattle.block_layout.specs.Indices.{count_of}
 use Rattle.sparse_pool.specs.Idle.{idle}
-use Rattle.problem_set.specs.declared.problem_items.StartBox.{StartBox}
+use Rattle.deck_entries.specs.declared.entries.StartBox.{StartBox}
 use Rattle.dense_mesh.proofs.Tables.{table_length}
 use Rattle.dense_remesh.specs.StartBoxes.{opening_list}
 use Rattle.dense_remesh.proofs.Pushed.{no_item}

@@ -3,7 +3,7 @@ use Rattle.std.specs.List.{filter}
 use Rattle.std.proofs.lemmas.Bool.Decides.{nat_tests}
 use Rattle.block_tree.specs.Blocks.{TreeOfBlocks, leaves}
 use Rattle.problem_set.specs.SettingsOf.{settings_of}
-use Rattle.problem_set.specs.declared.problem_items.StartBox.{StartBox}
+use Rattle.deck_entries.specs.declared.entries.StartBox.{StartBox}
 use Rattle.dense_remesh.specs.StartBoxes.{amounts}
 use Rattle.dense_remesh.proofs.Openings.{few_amounts}
 use Rattle.dense_remesh.proofs.Pushed.{no_item}

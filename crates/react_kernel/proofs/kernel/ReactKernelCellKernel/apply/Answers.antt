@@ -1,7 +1,7 @@
 use Rattle.std.proofs.Common.{◌∙◌, sym, ap, subst, ◌≤◌, length, List, arith}
 use Rattle.std.specs.Prelude.{All}
 use Rattle.package_fields.specs.Kernel.{with_reacted}
-use Rattle.problem_set.specs.declared.problem_items.Reaction.{Reaction}
+use Rattle.deck_entries.specs.declared.entries.Reaction.{Reaction}
 use Rattle.mesh_rules.specs.Reaction.{react_cell}
 use Rattle.react_kernel.specs.Code.{CanReact}
 use Rattle.react_kernel.specs.ReactionLaws.{read_back}

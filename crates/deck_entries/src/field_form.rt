@@ -1,7 +1,7 @@
 //! How blocks are read that declare fields.
 
-ghost use Rattle.problem_set.specs.FieldBlocks.{field_block};
-ghost use Rattle.problem_set.specs.SoundEntries.{IsMoves};
+ghost use Rattle.deck_entries.specs.FieldBlocks.{field_block};
+ghost use Rattle.deck_entries.specs.SoundEntries.{IsMoves};
 
 use crate::field_blocks::{FieldBlock, read_field_block};
 use deck_values::{BlockForm, BlockReader, ProblemFault};

@@ -11,8 +11,8 @@ use Rattle.package_fields.specs.declared.fault.FieldFault.TheVariants.{BadFlags}
 use Rattle.package_fields.specs.Flags.{has}
 use Rattle.deck_values.specs.declared.fault.ProblemFault.{ProblemFault}
 use Rattle.deck_values.specs.declared.fault.ProblemFault.TheVariants.{BadValue, Fields}
-use Rattle.problem_set.specs.declared.problem_items.Moves.{Moves}
-use Rattle.problem_set.specs.declared.field_blocks.FieldBlock.{FieldBlock}
+use Rattle.deck_entries.specs.declared.entries.Moves.{Moves}
+use Rattle.deck_entries.specs.declared.field_blocks.FieldBlock.{FieldBlock}
 use Rattle.deck_values.specs.Reading.{◌>>=◌, or_fault}
 use Rattle.deck_values.specs.Numbers.{is_name}
 use Rattle.deck_values.specs.BlockReader.{value_at, number, signed, is_within}

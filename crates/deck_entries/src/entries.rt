@@ -1,4 +1,4 @@
-//! The items that a problem lists: how each field moves, static boxes, opening boxes, reactions and criteria.
+//! What blocks of a deck say: how a field moves, static boxes, opening boxes, reactions and criteria.
 
 use mesh_settings::Method;
 

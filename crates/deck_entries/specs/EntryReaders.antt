@@ -5,10 +5,10 @@ use Rattle.input_file.specs.Blocks.{Blocks}
 use Rattle.package_fields.specs.declared.field.Field.{Field}
 use Rattle.mesh_settings.specs.declared.words.Method.{Method}
 use Rattle.deck_values.specs.declared.fault.ProblemFault.{ProblemFault}
-use Rattle.problem_set.specs.declared.problem_items.StaticAt.{StaticAt}
-use Rattle.problem_set.specs.declared.problem_items.StartBox.{StartBox}
-use Rattle.problem_set.specs.declared.problem_items.Reaction.{Reaction}
-use Rattle.problem_set.specs.declared.problem_items.Criterion.{Criterion}
+use Rattle.deck_entries.specs.declared.entries.StaticAt.{StaticAt}
+use Rattle.deck_entries.specs.declared.entries.StartBox.{StartBox}
+use Rattle.deck_entries.specs.declared.entries.Reaction.{Reaction}
+use Rattle.deck_entries.specs.declared.entries.Criterion.{Criterion}
 use Rattle.deck_values.specs.Reading.{◌>>=◌}
 use Rattle.deck_values.specs.BlockReader.{value_at, number}
 use Rattle.mesh_settings.specs.Words.{method_named}

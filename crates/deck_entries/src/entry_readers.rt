@@ -2,12 +2,12 @@
 
 ghost use Rattle.std.specs.Prelude.{◌≤◌, IfOk, length};
 ghost use Rattle.deck_values.specs.Reading.{Gives};
-ghost use Rattle.problem_set.specs.EntryReaders.{static_at, start_box, reaction, method, tolerances, criterion};
+ghost use Rattle.deck_entries.specs.EntryReaders.{static_at, start_box, reaction, method, tolerances, criterion};
 ghost use Rattle.mesh_settings.specs.Sound.{IsSize};
-ghost use Rattle.problem_set.specs.SoundEntries.{IsStatic, IsBox, IsReaction, IsCriterion, greatest_total};
-ghost use Rattle.mesh_settings.specs.Limits.{greatest_levels};
+ghost use Rattle.deck_entries.specs.SoundEntries.{IsStatic, IsBox, IsReaction, IsCriterion};
+ghost use Rattle.mesh_settings.specs.Limits.{greatest_total, greatest_levels};
 
-use crate::problem_items::{Criterion, Reaction, StartBox, StaticAt};
+use crate::entries::{Criterion, Reaction, StartBox, StaticAt};
 use deck_values::{BlockForm, BlockReader, ProblemFault};
 use mesh_settings::{
     GREATEST_FACTOR, Method, Part, read_amount, read_label, read_lower_amount, read_other_label,

@@ -3,12 +3,12 @@
 ghost use Rattle.std.specs.Prelude.{◌≡◌, ◌≤◌, IfOk, All, Ok, length, unsigned_abs};
 ghost use Rattle.std.specs.Option.{option_copied};
 ghost use Rattle.deck_values.specs.Reading.{Gives};
-ghost use Rattle.problem_set.specs.FieldBlocks.{behind_field, field_name, default_flags, package_name, flags, ids, flags_and_ids, speed, spread, order, entry_amount};
-ghost use Rattle.problem_set.specs.FieldBlocks.{speeds, entry_pair, entry_amounts, moves, field_block};
-ghost use Rattle.problem_set.specs.SoundEntries.{IsMoves, IsSlow, greatest_total};
-ghost use Rattle.mesh_settings.specs.Limits.{greatest_factor};
+ghost use Rattle.deck_entries.specs.FieldBlocks.{behind_field, field_name, default_flags, package_name, flags, ids, flags_and_ids, speed, spread, order, entry_amount};
+ghost use Rattle.deck_entries.specs.FieldBlocks.{speeds, entry_pair, entry_amounts, moves, field_block};
+ghost use Rattle.deck_entries.specs.SoundEntries.{IsMoves, IsSlow};
+ghost use Rattle.mesh_settings.specs.Limits.{greatest_total, greatest_factor};
 
-use crate::problem_items::Moves;
+use crate::entries::Moves;
 use deck_values::{BlockReader, ProblemFault, flags_of, ids_of, is_name};
 use mesh_settings::{GREATEST_FACTOR, GREATEST_TOTAL};
 use package_fields::{FieldFault, Flag, Flags, Items, Name, has_flag};

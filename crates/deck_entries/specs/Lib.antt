@@ -1,0 +1,3 @@
+pub mod SoundEntries
+pub mod EntryReaders
+pub mod FieldBlocks
