@@ -8,8 +8,8 @@ ghost use Rattle.mesh_settings.specs.Sound.{IsSize, IsFaces};
 ghost use Rattle.deck_entries.specs.SoundEntries.{IsMoves, IsBox};
 ghost use Rattle.mesh_settings.specs.Limits.{greatest_size, most_boxes, most_fields};
 
-use deck_entries::{Moves, StartBox};
 use crate::rates::{field_at, moves_at};
+use deck_entries::{Moves, StartBox};
 use mesh_settings::{FaceKind, Faces};
 use package_fields::{Field, Flag, has_flag};
 

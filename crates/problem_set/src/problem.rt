@@ -3,8 +3,8 @@ ghost use Rattle.std.proofs.Props.{props};
 ghost use Rattle.mesh_settings.specs.Sound.{IsSize, IsRefining, IsFaces, IsGrid, IsStepping};
 ghost use Rattle.problem_set.specs.SoundProblem.{AreFields, AreEntries, HaveFittingRates, HasBound};
 
-use deck_entries::{Criterion, Moves, Reaction, StartBox, StaticAt};
 use crate::rates::{Rates, rates_of};
+use deck_entries::{Criterion, Moves, Reaction, StartBox, StaticAt};
 use mesh_settings::{Faces, Mode};
 use morton_order::Shape;
 use package_fields::{Flag, Items, Registry};
