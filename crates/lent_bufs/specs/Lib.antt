@@ -1,0 +1,5 @@
+pub mod Meshes
+pub mod Buffers
+pub mod Cleared
+pub mod Kept
+pub mod Sums
