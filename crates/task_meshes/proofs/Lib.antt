@@ -1,0 +1,5 @@
+pub mod Lists
+pub mod Alike
+pub mod Told
+pub mod Owned
+pub mod Ordered

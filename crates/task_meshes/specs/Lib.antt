@@ -1,0 +1,5 @@
+pub mod Meshes
+pub mod Alike
+pub mod Kinds
+pub mod Exchanges
+pub mod Orders
