@@ -25,7 +25,7 @@ use Rattle.block_laws.specs.Rates.{AreRatesOf, ClosesReflecting}
 use Rattle.block_laws.proofs.OwnPairs.{face_within, first_order_pairs}
 use Rattle.kernel_laws.proofs.Slopes.{second_order_pairs}
 use Rattle.dense_stage.specs.Blocks.{AreBelow, HasOwn}
-use Rattle.dense_stage.specs.Rates.{AreFluxesBy, FitOrder}
+use Rattle.leaf_stages.specs.Rates.{AreFluxesBy, FitOrder}
 
 -- what stands in a list of numbers below 2^62, or nothing past its end
 pub read_small : (cells : List ℕ) → All (λ t. t < 2 ^ 62) cells → (k : ℕ) → slice_index cells k < 2 ^ 62

@@ -17,7 +17,7 @@ use Rattle.flow_laws.proofs.Flows.{domain_flows}
 use Rattle.dense_mesh.specs.Ghosts.{list_at}
 use Rattle.dense_stage.specs.declared.face_lists.FaceLists.{FaceLists}
 use Rattle.dense_stage.specs.Blocks.{FieldMesh, HavePairs, IsSoundMesh, block_in, mesh_in}
-use Rattle.dense_stage.specs.Domain.{inflow_along}
+use Rattle.leaf_stages.specs.Flows.{inflow_along}
 
 -- a sum over one more item
 pub sum_take_more : {X : Type 0} (xs : List X) (n : ℕ) (x : X) (g : X → ℕ) → slice_get xs n ≡ Some x → sum_over (take (n + 1) xs) g ≡ sum_over (take n xs) g + g x

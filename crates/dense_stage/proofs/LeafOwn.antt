@@ -17,7 +17,7 @@ use Rattle.upwind_fluxes.specs.declared.donor.Donor.TheVariants.{Below, Above}
 use Rattle.upwind_fluxes.specs.declared.rates.LevelRates.{LevelRates}
 use Rattle.block_laws.specs.Rates.{AreRatesOf, ClosesReflecting}
 use Rattle.dense_stage.specs.Blocks.{AreBelow, HasOwn, IsSoundMesh, block_in, field_on}
-use Rattle.dense_stage.specs.Rates.{AreFluxesBy, AreRatesAt, ClosesAt}
+use Rattle.leaf_stages.specs.Rates.{AreFluxesBy, AreRatesAt, ClosesAt}
 use Rattle.dense_stage.proofs.Fluxes.{has_own}
 use Rattle.dense_stage.proofs.LeafFlows.{sound_block}
 

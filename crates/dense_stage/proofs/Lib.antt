@@ -1,8 +1,5 @@
-pub mod RateFits
 pub mod Items
-pub mod Behinds
 pub mod Children
-pub mod SideSums
 pub mod LeafFlows
 pub mod Fluxes
 pub mod LeafOwn

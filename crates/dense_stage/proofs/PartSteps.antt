@@ -34,7 +34,7 @@ use Rattle.dense_stage.specs.declared.face_lists.FaceLists.{FaceLists}
 use Rattle.dense_stage.specs.Blocks.{FieldMesh, HasOwn, HaveOwn, IsSoundMesh, KeepPairs, KeepsPairs, block_in, mesh_in}
 use Rattle.dense_stage.specs.Faces.{AreFaceLists}
 use Rattle.dense_stage.specs.Parts.{IsPutTo, part_from}
-use Rattle.dense_stage.proofs.Behinds.{FineBehind, NumberAt, fine_is, number_leaf, numbers_at, numbers_length}
+use Rattle.leaf_stages.proofs.Behinds.{FineBehind, NumberAt, fine_is, number_leaf, numbers_at, numbers_length}
 use Rattle.dense_stage.proofs.Children.{child_below, children_are, half_of_child}
 use Rattle.dense_stage.proofs.LeafFlows.{sound_block}
 use Rattle.dense_stage.proofs.SmallSums.{IsSmallAtOwn, sums_are_small}

@@ -32,7 +32,7 @@ use Rattle.correction_laws.proofs.Digits.{child_of}
 use Rattle.dense_mesh.specs.Ghosts.{list_at}
 use Rattle.dense_stage.specs.declared.face_lists.FaceLists.{FaceLists}
 use Rattle.dense_stage.specs.Blocks.{FieldMesh, HasOwn, HasSidePairs, HaveOwn, IsSoundMesh, block_in}
-use Rattle.dense_stage.proofs.Behinds.{inner_is_fine}
+use Rattle.leaf_stages.proofs.Behinds.{inner_is_fine}
 use Rattle.dense_stage.proofs.Children.{child_again}
 use Rattle.dense_stage.proofs.LeafFlows.{sound_block}
 use Rattle.dense_stage.proofs.PartSteps.{FineSide, few_finer}

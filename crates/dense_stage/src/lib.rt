@@ -9,7 +9,6 @@ mod corrections;
 mod domain;
 mod face_lists;
 mod own_fluxes;
-mod rates;
 mod stage;
 mod staging;
 

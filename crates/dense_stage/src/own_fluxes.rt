@@ -16,13 +16,13 @@ ghost use Rattle.mesh_rules.specs.Fields.{moves_at};
 ghost use Rattle.dense_mesh.specs.Ghosts.{SeeMesh, list_at};
 ghost use Rattle.dense_stage.specs.Blocks.{AreBelow, HasOwn, HaveOwn, IsSoundMesh, OnLeaves, block_in, field_on, mesh_in};
 ghost use Rattle.dense_stage.specs.Faces.{AreFaceLists};
-ghost use Rattle.dense_stage.specs.Rates.{AreFluxesBy, AreLevelPortions, FitOrder};
+ghost use Rattle.leaf_stages.specs.Rates.{AreFluxesBy, AreLevelPortions, FitOrder};
 
 use crate::face_lists::FaceLists;
-use crate::rates::{LevelPortions, closed_sides, level_portions, portions_at};
 use block_layout::Layout;
 use block_tree::Tree;
 use cell_lists::Cells;
+use leaf_stages::{LevelPortions, closed_sides, level_portions, portions_at};
 use problem_set::Problem;
 use slope_kernel::slope_fluxes_by;
 use upwind_fluxes::fluxes_by;

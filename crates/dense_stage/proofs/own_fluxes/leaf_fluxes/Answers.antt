@@ -1,6 +1,6 @@
 use Rattle.std.proofs.Common.{◌∙◌, ap, length, subst, List, ℕ}
 use Rattle.problem_set.specs.SettingsOf.{settings_of}
-use Rattle.dense_stage.specs.Rates.{AreRatesAt}
+use Rattle.leaf_stages.specs.Rates.{AreRatesAt}
 use Rattle.dense_stage.proofs.LeafOwn.{leaf_has_own}
 use Rattle.dense_stage.proofs.own_fluxes.leaf_fluxes.Goals as goal
 

@@ -5,7 +5,7 @@ use Rattle.block_tree.specs.Blocks.{leaves}
 use Rattle.dense_mesh.specs.Ghosts.{list_at}
 use Rattle.dense_stage.specs.Blocks.{HasOwn, block_in, field_on}
 use Rattle.dense_stage.specs.Faces.{AreFaceLists}
-use Rattle.dense_stage.specs.Rates.{AreLevelPortions}
+use Rattle.leaf_stages.specs.Rates.{AreLevelPortions}
 use Rattle.problem_set.specs.SettingsOf.{settings_of}
 use Rattle.dense_stage.proofs.own_fluxes.own_fluxes.Given as goal
 

@@ -1,4 +1,4 @@
--- For the code: what flows through the faces of the domain at a leaf.
+-- What flows through the faces of the domain at a leaf.
 use Rattle.std.specs.Prelude.{ℕ, ◌+◌, true, false, List}
 use Rattle.morton_order.specs.declared.space.Loc.{Loc}
 use Rattle.morton_order.specs.declared.space.Shape.{Shape}

@@ -1,6 +1,6 @@
 use Rattle.std.proofs.Common.{subst, sym, ◌≤◌, ◌^◌, ℕ}
-use Rattle.dense_stage.proofs.SideSums.{passed_is, passed_most}
-use Rattle.dense_stage.proofs.domain.passed_through.Goals as goal
+use Rattle.leaf_stages.proofs.SideSums.{passed_is, passed_most}
+use Rattle.leaf_stages.proofs.flows.passed_through.Goals as goal
 
 pub returns-clause-value : goal.returns-clause-value
 returns-clause-value c = passed_is c.args.layout.now c.args.side.axis c.args.side.high c.args.list.now c.args.layout.now.sound c.requires.axis c.passed.result c.passed.ensures

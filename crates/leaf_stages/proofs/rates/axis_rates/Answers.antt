@@ -2,8 +2,8 @@ use Rattle.std.proofs.Common.{arith}
 use Rattle.std.proofs.lemmas.Option.{slice_get-get_or}
 use Rattle.problem_set.specs.SettingsOf.{settings_of}
 use Rattle.mesh_rules.specs.Fields.{field_at, moves_at}
-use Rattle.dense_stage.proofs.RateFits.{left_fits, right_fits}
-use Rattle.dense_stage.proofs.rates.axis_rates.Goals as goal
+use Rattle.leaf_stages.proofs.RateFits.{left_fits, right_fits}
+use Rattle.leaf_stages.proofs.rates.axis_rates.Goals as goal
 
 pub returns-then-axis-problem-clause-right_fits : goal.returns-then-axis-problem-clause-right_fits
 returns-then-axis-problem-clause-right_fits c =

@@ -2,9 +2,9 @@ use Rattle.std.proofs.Common.{◌∙◌, ap, List, ℕ}
 use Rattle.morton_order.specs.Neighbours.{across}
 use Rattle.block_tree.specs.Blocks.{is_inner_of, leaves}
 use Rattle.flow_laws.specs.Flows.{passed_side}
-use Rattle.dense_stage.proofs.Behinds.{outside_is_none}
-use Rattle.dense_stage.proofs.SideSums.{outside_counts}
-use Rattle.dense_stage.proofs.domain.passed_outside.Goals as goal
+use Rattle.leaf_stages.proofs.Behinds.{outside_is_none}
+use Rattle.leaf_stages.proofs.SideSums.{outside_counts}
+use Rattle.leaf_stages.proofs.flows.passed_outside.Goals as goal
 
 pub returns-in-Outside-clause-value : goal.returns-in-Outside-clause-value
 returns-in-Outside-clause-value c l get =

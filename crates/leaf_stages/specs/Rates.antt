@@ -1,4 +1,4 @@
--- For the code: the rates of a field at a level, and the closed sides of a leaf.
+-- The rates of a field at a level, and the closed sides of a leaf.
 use Rattle.std.specs.Prelude.{◌≡◌, ℕ, ◌*◌, ◌<◌, ◌≤◌, Bool, Some, List, slice_get}
 use Rattle.morton_order.specs.declared.space.Loc.{Loc}
 use Rattle.morton_order.specs.Neighbours.{across}
@@ -15,7 +15,7 @@ use Rattle.slope_kernel.specs.Slopes.{AreSlopeFluxes}
 use Rattle.upwind_fluxes.specs.Multipliers.{AreOf}
 use Rattle.upwind_fluxes.specs.Rates.{AreProper, along}
 use Rattle.block_laws.specs.Rates.{reflects}
-use Rattle.dense_stage.specs.declared.rates.LevelPortions.{LevelPortions}
+use Rattle.leaf_stages.specs.declared.rates.LevelPortions.{LevelPortions}
 
 -- a rate of a field is a part of the denominator, and at most two thirds of it by the second order
 pub record IsRateOf (p : Settings) (f rate : ℕ) : Type 0 where

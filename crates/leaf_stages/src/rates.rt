@@ -8,7 +8,7 @@ ghost use Rattle.mesh_rules.specs.Fields.{kind_at, moves_at, rates_at};
 ghost use Rattle.block_tree.specs.Blocks.{leaves};
 ghost use Rattle.upwind_fluxes.specs.Rates.{AreProper};
 ghost use Rattle.block_laws.specs.Rates.{reflects};
-ghost use Rattle.dense_stage.specs.Rates.{AreLevelPortions, AreRatesAt, ClosesAt, FitOrder, IsRateOf};
+ghost use Rattle.leaf_stages.specs.Rates.{AreLevelPortions, AreRatesAt, ClosesAt, FitOrder, IsRateOf};
 
 use block_tree::{Behind, Tree};
 use morton_order::Side;
@@ -54,14 +54,14 @@ fn level_rates(problem: &Problem, field: u32, level: u32) -> LevelRates
 
 /// The rates of a field at a level, and the multipliers that stand for them.
 #[derive(Clone, Copy)]
-pub(crate) struct LevelPortions {
-    pub(crate) level: u32,
-    pub(crate) rates: LevelRates,
-    pub(crate) multipliers: Multipliers,
+pub struct LevelPortions {
+    pub level: u32,
+    pub rates: LevelRates,
+    pub multipliers: Multipliers,
 }
 
-/// Those of a level.
-pub(crate) fn level_portions(problem: &Problem, field: u32, level: u32) -> LevelPortions
+/// The rates of a field at a level with their multipliers.
+pub fn level_portions(problem: &Problem, field: u32, level: u32) -> LevelPortions
     requires field { field < length problem.now.moves }
     requires level { level < problem.now.levels }
     ensures portions { AreLevelPortions (settings_of problem.now) field result }
@@ -75,8 +75,8 @@ pub(crate) fn level_portions(problem: &Problem, field: u32, level: u32) -> Level
     }
 }
 
-/// Those of a level, made anew only where the ones at hand are those of another level.
-pub(crate) fn portions_at(
+/// The rates of a field at a level with their multipliers, made anew only where those at hand are of another level.
+pub fn portions_at(
     problem: &Problem,
     field: u32,
     level: u32,
@@ -125,7 +125,7 @@ fn reflects_at(problem: &Problem, side: Side) -> bool
 }
 
 /// Which sides of a leaf are closed, in the order x1 low, x1 high, x2 low, x2 high, x3 low, x3 high.
-pub(crate) fn closed_sides(problem: &Problem, tree: &Tree, leaf: u32) -> [bool; 6]
+pub fn closed_sides(problem: &Problem, tree: &Tree, leaf: u32) -> [bool; 6]
     requires leaf { leaf < length (leaves tree.now) }
     ensures { ClosesAt problem.now tree.now leaf result }
 {

@@ -3,8 +3,8 @@ use Rattle.morton_order.specs.Neighbours.{across}
 use Rattle.problem_set.specs.SettingsOf.{settings_of}
 use Rattle.mesh_rules.specs.Fields.{kind_at}
 use Rattle.block_laws.specs.Rates.{reflects}
-use Rattle.dense_stage.proofs.RateFits.{six_closed}
-use Rattle.dense_stage.proofs.rates.closed_sides.Goals as goal
+use Rattle.leaf_stages.proofs.RateFits.{six_closed}
+use Rattle.leaf_stages.proofs.rates.closed_sides.Goals as goal
 
 pub returns : goal.returns
 returns c l get =

@@ -14,7 +14,7 @@ use Rattle.mesh_rules.specs.Fields.{field_at, moves_at, rates_at}
 use Rattle.mesh_laws.proofs.Portions.{rate_grows}
 use Rattle.run_laws.proofs.CycleTotals.{rates_fit}
 use Rattle.upwind_fluxes.specs.Fluxes.{is_closed_side}
-use Rattle.dense_stage.specs.Rates.{AreRatesAt, IsRateOf}
+use Rattle.leaf_stages.specs.Rates.{AreRatesAt, IsRateOf}
 
 -- the sides in order
 pub six_closed : (a b c d e f : Bool) (want : ℕ → Bool → Bool) (used : ℕ → Type 0) → (used 0 → a ≡ want 0 false) → (used 0 → b ≡ want 0 true) → (used 1 → c ≡ want 1 false) → (used 1 → d ≡ want 1 true) → (used 2 → e ≡ want 2 false) → (used 2 → f ≡ want 2 true) →

@@ -1,5 +1,5 @@
-use Rattle.dense_stage.proofs.RateFits.{three_rates}
-use Rattle.dense_stage.proofs.rates.level_rates.Goals as goal
+use Rattle.leaf_stages.proofs.RateFits.{three_rates}
+use Rattle.leaf_stages.proofs.rates.level_rates.Goals as goal
 
 pub returns-clause-rates : goal.returns-clause-rates
 returns-clause-rates c =

@@ -3,8 +3,8 @@ use Rattle.std.specs.List.{slice_get}
 use Rattle.morton_order.specs.declared.space.Loc.{Loc}
 use Rattle.block_tree.specs.Blocks.{leaves}
 use Rattle.mesh_rules.specs.Sums.{sum_to}
-use Rattle.dense_stage.specs.Domain.{inflow_along}
-use Rattle.dense_stage.proofs.domain.leaf_flows.Given as goal
+use Rattle.leaf_stages.specs.Flows.{inflow_along}
+use Rattle.leaf_stages.proofs.flows.leaf_flows.Given as goal
 
 abbrev pub invariant-loop-axis : goal.invariant-loop-axis
 invariant-loop-axis l = record {

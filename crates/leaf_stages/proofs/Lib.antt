@@ -1,0 +1,3 @@
+pub mod RateFits
+pub mod Behinds
+pub mod SideSums
