@@ -3,3 +3,4 @@ mod Rows
 mod Gains
 mod MeshCells
 mod LeafSteps
+mod Unreacted
