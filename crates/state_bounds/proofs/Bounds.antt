@@ -1,5 +1,5 @@
 -- The kernels of blocks may be called on the buffers of a stage, and before the reaction.
-use Rattle.std.proofs.Common.{◌≡◌, ℕ, suc, ◌+◌, ◌-◌, ◌*◌, ◌^◌, ◌<◌, ◌≤◌, Bool, true, not, All, List, [], ◌∷◌, length, refl, arith, ap, subst, sym, ◌∙◌, slice_index, map}
+use Rattle.std.proofs.Common.{◌≡◌, ℕ, suc, ◌+◌, ◌-◌, ◌*◌, ◌^◌, ◌<◌, ◌≤◌, Bool, true, not, All, List, [], ◌∷◌, length, refl, arith, ap, subst, sym, ◌∙◌, slice_index, map, is_some}
 use Rattle.std.specs.List.{list_any, slice_index_or}
 use Rattle.morton_order.specs.declared.space.Loc.{Loc}
 use Rattle.problem_set.specs.SettingsOf.{settings_of}
@@ -16,6 +16,8 @@ use Rattle.block_layout.specs.Layouts.{interior_len}
 use Rattle.block_layout.proofs.Boxes.{index_below, index_number}
 use Rattle.block_geometry.specs.Blocks.{FieldBlock, cell_in}
 use Rattle.block_geometry.specs.Contents.{HasPairs}
+use Rattle.ghost_buffers.specs.declared.part.How.{How}
+use Rattle.ghost_buffers.specs.declared.part.How.TheVariants.{Same, Finer, Coarser}
 use Rattle.ghost_buffers.specs.Parts.{PartBelow}
 use Rattle.transport_kernel.specs.Update.{CanPass, listed}
 use Rattle.flux_correct.specs.Boxes.{SumsBelow}
@@ -26,7 +28,7 @@ use Rattle.sparse_rounds.proofs.Ends.{stays_masked}
 use Rattle.cycle_kernels.specs.Blocks.{CycleMesh, leaf_at}
 use Rattle.cycle_kernels.specs.Kernels.{kernels_of}
 use Rattle.cycle_kernels.specs.Lists.{with_ghosts}
-use Rattle.cycle_kernels.specs.Letters.{how_sent, part_covered, same_letter}
+use Rattle.cycle_kernels.specs.Letters.{how_sent, part_by, same_letter}
 use Rattle.cycle_kernels.specs.Pairs.{FacePairs}
 use Rattle.cycle_kernel_bounds.proofs.Exchanges.{ghosts_are_small, parts_may_be_filled}
 use Rattle.cycle_kernel_bounds.proofs.Stages.{sums_may_be_gathered, updates_may_pass}
@@ -53,11 +55,19 @@ on_first c n P h = subst (λ (m : Mesh). P (mesh_with c m)) (same_staged (settin
 on_stage : (c : Cycle) (n : ℕ) (P : CycleMesh → Type 0) → P (mesh_with c (record c.state.mesh { totals = (mesh_of_stage c n).totals })) → P (in_stage c n)
 on_stage c n P h = subst (λ (m : Mesh). P (mesh_with c m)) (sym (same_staged (settings_of c.problem) c.state n)) h
 
+-- which part of a side a letter covers is told by the tree alone
+part_same : (how : How) (c : Cycle) (t : List (List (List ℕ))) (x : Exchange) → part_by how (mesh_with c (record c.state.mesh { totals = t })) x ≡ part_by how (cycle_mesh c) x
+part_same Same c t x = refl
+part_same Finer c t x = refl
+part_same Coarser c t x = refl
+
 may_send : (c : Cycle) (n f : ℕ) (x : Exchange) → IsCycle c → n ≤ c.problem.nstages → f < field_count (settings_of c.problem) → list_any (same_letter x) (ghost_letters c.state.mesh) ≡ true → MayBeSent c x (totals_then c n x.from f)
 may_send c n f x is most some due rest =
-    on_first c n (λ (w : CycleMesh). PartBelow (2 ^ 62) (how_sent w x) c.layout x.axis (not x.high) (part_covered w x) (with_ghosts c.layout (totals_then c n x.from f) rest))
+    let how : How = how_sent (cycle_mesh c) x in
+    subst (λ (part : ℕ). PartBelow (2 ^ 62) how c.layout x.axis (not x.high) part (with_ghosts c.layout (totals_then c n x.from f) rest)) (part_same how c (mesh_of_stage c n).totals x)
+    (on_first c n (λ (w : CycleMesh). PartBelow (2 ^ 62) (how_sent w x) c.layout x.axis (not x.high) (part_by (how_sent w x) w x) (with_ghosts c.layout (totals_then c n x.from f) rest))
     (parts_may_be_filled (in_stage c n) (mesh_of_stage c n).totals f (λ b. totals_then c n b f) x rest (hold_bounded c n f is most some)
-    (on_stage c n (λ (w : CycleMesh). list_any (same_letter x) (ghost_letters w.mesh) ≡ true) due))
+    (on_stage c n (λ (w : CycleMesh). list_any (same_letter x) (ghost_letters w.mesh) ≡ true) due)))
 
 small_then : (c : Cycle) (n b f : ℕ) → IsCycle c → n ≤ c.problem.nstages → IsPlace c b f → All (λ total. total < 2 ^ 62) (with_ghosts c.layout (totals_then c n b f) (ghosts_of (kernels c) (totals_then c n) b f))
 small_then c n b f is most at =
@@ -85,7 +95,7 @@ may_pass c n b f rest pairs is more at has =
     omega (arith, counts, after))
 
 -- the state agrees with the run
-agrees : (c : Cycle) (events : List Event) (b f : ℕ) → IsCycle c → IsJournal (on_mesh c) events → Agrees (kernels c) (start_of c) ((mesh_state c events).given ((kernels c).owner b)) _ (local_of c (mesh_state c events) b) b f
+agrees : (c : Cycle) (events : List Event) (b f : ℕ) → IsCycle c → IsJournal (on_mesh c) events → Agrees (kernels c) (start_of c) ((mesh_state c events).given ((kernels c).owner b)) (is_some ((mesh_state c events).out ((kernels c).owner b))) (local_of c (mesh_state c events) b) b f
 agrees c events b f is h =
     stays_masked Exchange (List ℕ) (List ℕ) FacePairs (List ℕ) Wish (kernels c) (start_of c) (map forget events) (laws_of c is) (starts_are_starts c is) (history_is (on_mesh c) (opening (on_mesh c)) events h.legal) b f
 

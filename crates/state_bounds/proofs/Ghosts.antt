@@ -99,14 +99,14 @@ module _ {X V G F P W : Type 0} (k : Kernels X V G F P W) (start : Run V) (Fine 
       by true = h
       by false = g j
 
-  arrived_fine : (r : ℕ) (x : X) (content : ℕ → P) (l : Local V G F W) → AreFine l → AreFine ((sparse k start).arrive 0 r x content l)
+  arrived_fine : (r : ℕ) (x : X) (content : ℕ → P) (l : Local V G F W) → AreFine l → AreFine ((sparse k start).arrive r x content l)
   arrived_fine r x content l h b f u e =
       either b (makes k r x content l b f) (Some (nothing k)) (l.bufs b f) u (λ v d. fine_as b (nothing k) v (none b) d) (h b f) e
 
   delivered_fine : (s : State X (Local V G F W) (ℕ → P)) (n : ℕ) (o : Option (Letter X (ℕ → P))) → StateIsFine s → StateIsFine (rounds.delivered (plan_of k) (sparse k start) s n o)
-  delivered_fine s n None h = h
+  delivered_fine s n None h i = h i
   delivered_fine s n (Some l) h i =
-      put_fine (k.owner (k.to l.of)) i ((sparse k start).arrive (k.owner (k.to l.of)) l.round l.of l.content (s.local (k.owner (k.to l.of)))) s.local
+      put_fine (k.owner (k.to l.of)) i ((sparse k start).arrive l.round l.of l.content (s.local (k.owner (k.to l.of)))) s.local
       (arrived_fine l.round l.of l.content (s.local (k.owner (k.to l.of))) (h (k.owner (k.to l.of)))) h
 
   step_fine : (s : State X (Local V G F W) (ℕ → P)) (e : rounds.Event) → StateIsFine s → StateIsFine (step (plan_of k) (sparse k start) s e)
@@ -114,7 +114,7 @@ module _ {X V G F P W : Type 0} (k : Kernels X V G F P W) (start : Run V) (Fine 
   step_fine s (rounds.give seat i) h j =
       put_fine i j ((sparse k start).work i (s.given i) (rounds.reads (plan_of k) (sparse k start) s (s.given i / 3)) (s.local i)) s.local
       (work_fine (s.given i) (rounds.reads (plan_of k) (sparse k start) s (s.given i / 3)) (s.local i) (h i)) h
-  step_fine s (rounds.deliver seat n) h = delivered_fine s n (find (λ (l : Letter X (ℕ → P)). l.number == n) s.wire) h
+  step_fine s (rounds.deliver seat n) h j = delivered_fine s n (find (λ (l : Letter X (ℕ → P)). l.number == n) s.wire) h j
 
   begin_fine : StateIsFine (rounds.begin (sparse k start))
   begin_fine i b f u e =
