@@ -1,0 +1,4 @@
+pub mod Listed
+pub mod Flows
+pub mod Advanced
+pub mod Steps
