@@ -1,10 +1,11 @@
 #!/usr/bin/env bash
-# Measures a stage of sixteen blocks in cache whose ghosts are filled: without face lists (fused), by face lists of the first order
-# (lists) and of the second (slopes). Prints the machine's processor and, for blocks of 16 by 16, 64 by 64 and 16 by 16 by 16 cells,
-# totals below 2^20, 2^32 and 2^62 and one or both directions, nanoseconds a cell: the best of many rounds. Lists and slopes test in
-# each stage that totals stay below 2^62. With the source of a C program as its argument, which makes such stages with their ghosts
-# and prints nanoseconds a cell, it builds that one with cc -O2, takes the best of its runs between ours as the base figure of
-# each size and direction, and prints the ratios as well.
+# Measures a stage of sixteen blocks in cache: without face lists (fused), by face lists of the first order (lists) and of the
+# second (slopes), with ghosts that are filled before, and one by face lists of the first order with letters that fill the ghosts
+# (letters). Prints the machine's processor and, for blocks of 16 by 16, 64 by 64 and 16 by 16 by 16 cells, totals below 2^20, 2^32
+# and 2^62 and one or both directions, nanoseconds a cell: the best of many rounds. That totals stay below 2^62 is tested between
+# the stages and not timed. With the source of a C program as its argument, which makes such stages with their ghosts and prints
+# nanoseconds a cell, it builds that one with cc -O2, takes the best of its runs between ours as the base figure of each size and
+# direction, and prints the ratios as well.
 set -eu
 export LC_ALL=C
 
@@ -51,7 +52,7 @@ for size in 16x16 64x64 16x16x16; do
             echo "$size $ways: yardstick $other ns a cell"
         fi
         for bits in 20 32 62; do
-            for kernel in fused lists slopes; do
+            for kernel in fused lists slopes letters; do
                 time=$(figure "$kernel" "$size" "$bits" "$ways")
                 echo "$size $ways, totals below 2^$bits, $kernel: $time ns a cell$(
                     if [ -n "$other" ]; then

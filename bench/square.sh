@@ -1,7 +1,7 @@
 #!/usr/bin/env bash
 # Measures a run of 256 by 256 cells in blocks of 16 by 16 with one field over 500 cycles of one stage, with a dump at the
-# opening and at the end. Prints the machine's processor, the time, the time of a cell update, that of the kernels alone (fluxes and
-# update of blocks of that size, with ghosts that are there), the ratio of the two, and the peak memory.
+# opening and at the end. Prints the machine's processor, the time, the time of a cell update, that of the kernels alone (fluxes,
+# update and letters that fill the ghosts, on blocks of that size in cache), the ratio of the two, and the peak memory.
 set -eu
 export LC_ALL=C
 
@@ -48,7 +48,7 @@ if [ "$status" -ne 0 ]; then
     cat line >&2
     exit 1
 fi
-kernel=$("$kernels" lists ${block}x$block 32 both)
+kernel=$("$kernels" letters ${block}x$block 32 both)
 echo "processor: $(awk -F': ' '/^model name/ { print $2; exit }' /proc/cpuinfo)"
 echo "run: $(cat line)"
 awk -v start="$start" -v end="$end" -v updates="$((side * side * cycles))" -v kernel="$kernel" -v peak="$peak" 'BEGIN {

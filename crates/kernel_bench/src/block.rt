@@ -4,6 +4,7 @@ ghost use Rattle.std.specs.Prelude.{◌≡◌, ◌<◌, ◌≤◌, ◌^◌, All,
 ghost use Rattle.block_layout.specs.Layouts.{len};
 ghost use Rattle.block_layout.specs.Faces.{face_count};
 ghost use Rattle.kernel_bench.specs.Fitting.{FitSlopes};
+ghost use Rattle.kernel_bench.specs.Small.{HasSmall};
 ghost use Rattle.upwind_fluxes.specs.Multipliers.{AreOf};
 ghost use Rattle.upwind_fluxes.specs.Rates.{AreProper};
 
@@ -21,9 +22,8 @@ const OPEN: [bool; 6] = [false; 6];
 /// the others change them in place.
 #[derive(Drop)]
 pub(crate) struct Block {
-    cells: Vec<u64>,
+    pub(crate) cells: Vec<u64>,
     pub(crate) next: Vec<u64>,
-    ghost small: { All (λ t. t < 2 ^ 62) cells.items },
 }
 
 /// Room for what passes the faces of a block.
@@ -55,24 +55,12 @@ impl Block {
             cells.push(bits.total_of(i.wrapping_mul(977).wrapping_add(number)))?;
         }
         let next = Vec::from_slice(alloc, cells.as_slice())?;
-        Ok(Block::of(alloc, cells, next))
-    }
-
-    /// The block of these totals, or one without cells where they are not small.
-    fn of(alloc: Global, cells: Vec<u64>, next: Vec<u64>) -> Block {
-        if are_small(cells.as_slice()) {
-            Block { cells, next }
-        } else {
-            Block {
-                cells: Vec::new(alloc),
-                next,
-            }
-        }
+        Ok(Block { cells, next })
     }
 }
 
 /// Whether all totals are below 2^62.
-pub(crate) fn are_small(totals: &[u64]) -> bool
+fn are_small(totals: &[u64]) -> bool
     ensures { IsTrue result → All (λ t. t < 2 ^ 62) totals.now }
 {
     let mut bits = 0u64;
@@ -145,8 +133,14 @@ fn by_fused(
     stage(layout, rates, multipliers, closed, cells, next);
 }
 
-/// A stage of a block by a kernel; nothing where its lists do not fit, or where a total that is changed in place is
-/// 2^62 or more.
+/// Whether all totals of a block are below 2^62.
+pub(crate) fn has_small(block: &Block) -> bool
+    ensures { IsTrue result → HasSmall block.now }
+{
+    are_small(block.cells.as_slice()) && are_small(block.next.as_slice())
+}
+
+/// A stage of a block by a kernel; nothing where its lists do not fit.
 pub(crate) fn make_stage(
     kernel: Kernel,
     layout: &Layout,
@@ -158,6 +152,7 @@ pub(crate) fn make_stage(
     requires proper { AreProper rates.now }
     requires of_rates { AreOf rates.now multipliers.now }
     requires fit { FitSlopes layout.now.dims rates.now }
+    requires small { HasSmall block.old }
 {
     let size = layout.len();
     let count = layout.face_count();
@@ -173,14 +168,11 @@ pub(crate) fn make_stage(
         by_fused(layout, rates, multipliers, &OPEN, cells, next);
         return;
     }
-    if !are_small(block.next.as_slice()) {
-        return;
-    }
     let cells = block.next.as_mut_slice();
     let right = faces.right.as_mut_slice();
     let left = faces.left.as_mut_slice();
     match kernel {
-        Kernel::Lists => by_lists(layout, rates, multipliers, &OPEN, cells, right, left),
-        _ => by_slopes(layout, rates, multipliers, &OPEN, cells, right, left),
+        Kernel::Slopes => by_slopes(layout, rates, multipliers, &OPEN, cells, right, left),
+        _ => by_lists(layout, rates, multipliers, &OPEN, cells, right, left),
     }
 }

@@ -2,12 +2,13 @@
 
 use block_layout::Layout;
 
-/// By which kernels a stage is made.
+/// By which kernels a stage is made; with letters it is one by lists, after which letters fill the ghosts.
 #[derive(Clone, Copy, PartialEq, Eq, Debug)]
 pub(crate) enum Kernel {
     Fused,
     Lists,
     Slopes,
+    Letters,
 }
 
 /// How many cells a block has along each axis.
@@ -69,6 +70,8 @@ fn kernel_of(word: &str, before: Kernel) -> Kernel {
         Kernel::Lists
     } else if word == "slopes" {
         Kernel::Slopes
+    } else if word == "letters" {
+        Kernel::Letters
     } else {
         before
     }

@@ -1,13 +1,15 @@
-//! Makes a stage of sixteen blocks over and over, with ghosts that are filled before and stay.
+//! Makes a stage of sixteen blocks over and over.
 //!
-//! Each word chooses one thing: `fused` (a stage without face lists), `lists` (fluxes and update) or `slopes` (fluxes of
-//! the second order and update); `16x16`, `64x64` or `16x16x16` cells a block; totals below two to the `20`, `32` or
-//! `62`; rates `one` way or `both` ways. With words it prints nanoseconds a cell, by the fastest of many rounds; with none
-//! the sums of the totals after one stage by the first two, which are the same. `bench/kernels.sh` prints them all.
+//! Each word chooses one thing: `fused` (a stage without face lists), `lists` (fluxes and update), `slopes` (fluxes of
+//! the second order and update) or `letters` (a stage by `lists`, and then letters fill the ghosts; without them ghosts
+//! are filled before and stay); `16x16`, `64x64` or `16x16x16` cells a block; totals below two to the `20`, `32` or
+//! `62`; rates `one` way or `both` ways. With words it prints nanoseconds a cell, by the fastest of many rounds; with
+//! none the sums of the totals after one stage by the first two, which are the same. `bench/kernels.sh` prints them all.
 #![tactic(auto)]
 
 mod block;
 mod case;
+mod exchange;
 mod rates;
 mod rounds;
 
@@ -26,31 +28,46 @@ fn main(rt: HostRuntime) -> io::Result<()> {
         words = words.saturating_add(1);
     }
     if words == 0 {
-        return match totals(rt.alloc(), case) {
-            Ok((fused, lists)) => println!(rt; "fused {fused}, lists {lists}"),
+        return match totals(&rt, rt.alloc(), case) {
+            Ok(Some((fused, lists))) => println!(rt; "fused {fused}, lists {lists}"),
+            Ok(None) => println!(rt; "no figures"),
             Err(_) => println!(rt; "no memory"),
         };
     }
     match time_of(&rt, rt.alloc(), case) {
-        Ok(time) => {
+        Ok(Some(time)) => {
             let whole = time / 100;
             let rest = time % 100;
             println!(rt; "{whole}.{rest:02}")
         }
+        Ok(None) => println!(rt; "no figures"),
         Err(_) => println!(rt; "no memory"),
     }
 }
 
 /// The hundredths of a nanosecond that an update of a cell takes.
-fn time_of<C: Clock>(clock: &C, alloc: Global, case: Case) -> Result<u128, NoMemory> {
+fn time_of<C: Clock>(clock: &C, alloc: Global, case: Case) -> Result<Option<u128>, NoMemory> {
     let mut run = Run::new(alloc, case)?;
-    Ok(run.best_time(clock))
+    Ok(run.best_time(clock, alloc))
+}
+
+/// The sum of the totals after one stage by a kernel.
+fn total<C: Clock>(clock: &C, alloc: Global, case: Case) -> Result<Option<u128>, NoMemory> {
+    let mut run = Run::new(alloc, case)?;
+    Ok(run.total_after(clock, alloc))
 }
 
 /// The sums of the totals after one stage by the two kernels of the first order.
-fn totals(alloc: Global, case: Case) -> Result<(u128, u128), NoMemory> {
-    let mut fused = Run::new(alloc, case)?;
+fn totals<C: Clock>(
+    clock: &C,
+    alloc: Global,
+    case: Case,
+) -> Result<Option<(u128, u128)>, NoMemory> {
     let kernel = Kernel::Lists;
-    let mut lists = Run::new(alloc, Case { kernel, ..case })?;
-    Ok((fused.total_after(), lists.total_after()))
+    let fused = total(clock, alloc, case)?;
+    let lists = total(clock, alloc, Case { kernel, ..case })?;
+    match (fused, lists) {
+        (Some(fused), Some(lists)) => Ok(Some((fused, lists))),
+        _ => Ok(None),
+    }
 }

@@ -1,12 +1,14 @@
 //! Rounds of stages of many blocks.
 
-ghost use Rattle.std.specs.Prelude.{◌≤◌, ◌<◌, ◌^◌, IfSome};
+ghost use Rattle.std.specs.Prelude.{◌≤◌, ◌^◌, IsTrue};
 ghost use Rattle.kernel_bench.specs.Fitting.{FitSlopes};
+ghost use Rattle.kernel_bench.specs.Small.{HaveSmall};
 ghost use Rattle.upwind_fluxes.specs.Multipliers.{AreOf};
 ghost use Rattle.upwind_fluxes.specs.Rates.{AreProper};
 
-use crate::block::{Block, Faces, make_stage};
+use crate::block::{Block, Faces, has_small, make_stage};
 use crate::case::{Case, Kernel};
+use crate::exchange::exchange;
 use crate::rates::rates_of;
 use block_layout::Layout;
 use mesh_num::NoMemory;
@@ -31,31 +33,62 @@ pub(crate) struct Run {
     faces: Faces,
 }
 
+/// Whether the totals of all blocks are below 2^62.
+fn have_small(blocks: &[Block]) -> bool
+    ensures { IsTrue result → HaveSmall blocks.now }
+{
+    for block in blocks {
+        if !has_small(block) {
+            return false;
+        }
+    }
+    true
+}
+
 /// A stage of all blocks.
 fn make_stages(
     kernel: Kernel,
     layout: &Layout,
     rates: &LevelRates,
     multipliers: &Multipliers,
-    blocks: &mut Vec<Block>,
+    blocks: &mut [Block],
     faces: &mut Faces,
 )
     requires proper { AreProper rates.now }
     requires of_rates { AreOf rates.now multipliers.now }
     requires fit { FitSlopes layout.now.dims rates.now }
+    requires small { HaveSmall blocks.old }
 {
     for block in blocks.iter_mut() {
         make_stage(kernel, layout, rates, multipliers, block, faces);
     }
 }
 
-/// Some stages of all blocks.
-fn make_all(case: Case, layout: &Layout, blocks: &mut Vec<Block>, faces: &mut Faces, times: u64) {
-    let rates = rates_of(case.ways);
-    let multipliers = Multipliers::of(&rates);
-    for _ in 0..times {
-        make_stages(case.kernel, layout, &rates, &multipliers, blocks, faces);
+/// The nanoseconds of a stage of all blocks, and of their letters where those fill ghosts. None where a total is 2^62 or
+/// more, or no time or no memory is had. The test of the totals is not timed.
+fn stage_time<C: Clock>(
+    clock: &C,
+    alloc: Global,
+    kernel: Kernel,
+    layout: &Layout,
+    rates: &LevelRates,
+    multipliers: &Multipliers,
+    blocks: &mut [Block],
+    faces: &mut Faces,
+) -> Option<u128>
+    requires proper { AreProper rates.now }
+    requires of_rates { AreOf rates.now multipliers.now }
+    requires fit { FitSlopes layout.now.dims rates.now }
+{
+    if !have_small(blocks) {
+        return None;
     }
+    let start = Instant::now(clock);
+    make_stages(kernel, layout, rates, multipliers, blocks, faces);
+    if kernel == Kernel::Letters && exchange(alloc, layout, blocks).is_err() {
+        return None;
+    }
+    nanoseconds_since(clock, start)
 }
 
 impl Run {
@@ -83,43 +116,47 @@ impl Run {
         cells.max(1)
     }
 
+    /// The nanoseconds of some stages of all blocks.
+    fn time_of<C: Clock>(&mut self, clock: &C, alloc: Global, times: u64) -> Option<u128> {
+        let rates = rates_of(self.case.ways);
+        let multipliers = Multipliers::of(&rates);
+        let mut time = 0u128;
+        for _ in 0..times {
+            let took = stage_time(
+                clock,
+                alloc,
+                self.case.kernel,
+                &self.layout,
+                &rates,
+                &multipliers,
+                self.blocks.as_mut_slice(),
+                &mut self.faces,
+            )?;
+            time = time.saturating_add(took);
+        }
+        Some(time)
+    }
+
     /// The hundredths of a nanosecond that an update of a cell takes, by the fastest of many rounds.
-    pub(crate) fn best_time<C: Clock>(&mut self, clock: &C) -> u128 {
+    pub(crate) fn best_time<C: Clock>(&mut self, clock: &C, alloc: Global) -> Option<u128> {
         let times = UPDATES / self.cells() + 1;
         let mut best = u128::from(u64::MAX);
         for _ in 0..ROUNDS {
-            let start = Instant::now(clock);
-            make_all(
-                self.case,
-                &self.layout,
-                &mut self.blocks,
-                &mut self.faces,
-                times,
-            );
-            if let Some(took) = nanoseconds_since(clock, start) {
-                best = best.min(took);
-            }
+            let time = self.time_of(clock, alloc, times)?;
+            best = best.min(time);
         }
-        best.min(u128::from(u64::MAX)) * 100 / (u128::from(times) * u128::from(self.cells()))
+        Some(best.min(u128::from(u64::MAX)) * 100 / (u128::from(times) * u128::from(self.cells())))
     }
 
-    /// The sum of all totals after a stage.
-    pub(crate) fn total_after(&mut self) -> u128 {
-        make_all(
-            self.case,
-            &self.layout,
-            &mut self.blocks,
-            &mut self.faces,
-            1,
-        );
-        sum_of(self.blocks.as_slice())
+    /// The sum of all totals after a stage; None as for its time.
+    pub(crate) fn total_after<C: Clock>(&mut self, clock: &C, alloc: Global) -> Option<u128> {
+        let _ = self.time_of(clock, alloc, 1)?;
+        Some(sum_of(self.blocks.as_slice()))
     }
 }
 
 /// The nanoseconds since a time, if the clock tells.
-fn nanoseconds_since<C: Clock>(clock: &C, start: io::Result<Instant>) -> Option<u128>
-    ensures { IfSome result (λ n. n < 2 ^ 94) }
-{
+fn nanoseconds_since<C: Clock>(clock: &C, start: io::Result<Instant>) -> Option<u128> {
     match start {
         Ok(at) => match at.elapsed(clock) {
             Ok(took) => Some(took.as_nanos()),
