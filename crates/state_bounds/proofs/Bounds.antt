@@ -1,6 +1,6 @@
 -- The kernels of blocks may be called on the buffers of a stage, and before the reaction.
-use Rattle.std.proofs.Common.{◌≡◌, ℕ, suc, ◌+◌, ◌-◌, ◌*◌, ◌^◌, ◌<◌, ◌≤◌, Bool, true, not, All, List, [], ◌∷◌, length, refl, arith, ap, subst, sym, ◌∙◌, slice_index, map, is_some}
-use Rattle.std.specs.List.{list_any, slice_index_or}
+use Rattle.std.proofs.Common.{◌≡◌, ℕ, ◌*◌, ◌^◌, ◌<◌, ◌≤◌, Bool, true, not, All, List, refl, arith, ap, subst, sym, ◌∙◌, slice_index, map, is_some}
+use Rattle.std.specs.List.{list_any}
 use Rattle.morton_order.specs.declared.space.Loc.{Loc}
 use Rattle.problem_set.specs.SettingsOf.{settings_of}
 use Rattle.mesh_rules.specs.declared.wish.Wish.{Wish}
@@ -8,33 +8,29 @@ use Rattle.mesh_rules.specs.Due.{Exchange, ghost_letters}
 use Rattle.mesh_rules.specs.Fields.{field_count}
 use Rattle.mesh_rules.specs.Mesh.{Mesh, stored, total_of, totals_on}
 use Rattle.mesh_rules.specs.Stage.{staged}
-use Rattle.mesh_rules.specs.Sums.{sum_to}
 use Rattle.run_laws.proofs.CycleMeshes.{on_staged}
 use Rattle.run_laws.proofs.Inflows.{sum_to_le}
 use Rattle.block_layout.specs.Indices.{IsWithin, index_of, number_of}
 use Rattle.block_layout.specs.Layouts.{interior_len}
 use Rattle.block_layout.proofs.Boxes.{index_below, index_number}
-use Rattle.block_geometry.specs.Blocks.{FieldBlock, cell_in}
 use Rattle.block_geometry.specs.Contents.{HasPairs}
 use Rattle.ghost_buffers.specs.declared.part.How.{How}
 use Rattle.ghost_buffers.specs.declared.part.How.TheVariants.{Same, Finer, Coarser}
 use Rattle.ghost_buffers.specs.Parts.{PartBelow}
 use Rattle.transport_kernel.specs.Update.{CanPass, listed}
-use Rattle.flux_correct.specs.Boxes.{SumsBelow}
 use Rattle.sparse_rounds.specs.Kernels.{ghosts_of, own_pairs}
 use Rattle.sparse_rounds.specs.Sparse.{Buf}
 use Rattle.sparse_rounds.specs.Agreement.{Agrees, StageAgrees}
 use Rattle.sparse_rounds.proofs.Ends.{stays_masked}
-use Rattle.cycle_kernels.specs.Blocks.{CycleMesh, leaf_at}
-use Rattle.cycle_kernels.specs.Kernels.{kernels_of}
+use Rattle.cycle_kernels.specs.Blocks.{CycleMesh}
 use Rattle.cycle_kernels.specs.Lists.{with_ghosts}
 use Rattle.cycle_kernels.specs.Letters.{how_sent, part_by, same_letter}
 use Rattle.cycle_kernels.specs.Pairs.{FacePairs}
 use Rattle.cycle_kernel_bounds.proofs.Exchanges.{ghosts_are_small, parts_may_be_filled}
 use Rattle.cycle_kernel_bounds.proofs.Stages.{sums_may_be_gathered, updates_may_pass}
 use Rattle.kernel_stages.proofs.Places.{stored_at_index}
-use Rattle.masked_cycles.specs.Cycles.{Cycle, IsCycle, IsPlace, cycle_mesh, kernels, leaf, start_of}
-use Rattle.masked_cycles.specs.States.{HoldsAfter, StageHolds, block_of_stage, held, list_of, mesh_of_stage}
+use Rattle.masked_cycles.specs.Cycles.{Cycle, IsCycle, IsPlace, cycle_mesh, kernels, start_of}
+use Rattle.masked_cycles.specs.States.{StageHolds, block_of_stage, held, mesh_of_stage}
 use Rattle.masked_cycles.proofs.Staging.{leaf_same}
 use Rattle.masked_cycles.proofs.Starts.{starts_are_starts}
 use Rattle.masked_cycles.proofs.States.{states_hold}
@@ -44,7 +40,7 @@ use Rattle.cycle_events.specs.Cycles.{forget, opening}
 use Rattle.cycle_events.specs.Journals.{IsJournal}
 use Rattle.cycle_events.proofs.Histories.{history_is}
 use Rattle.mesh_journals.specs.Cycles.{local_of, mesh_state, on_mesh}
-use Rattle.state_bounds.specs.Bounds.{CellsAreSmall, HasSmallSums, MayBeSent, MayGoOn, StagesMayGoOn}
+use Rattle.state_bounds.specs.Bounds.{CellsAreSmall, HasSmallSums, MayBeSent, StagesMayGoOn}
 use Rattle.state_bounds.proofs.Stages.{MeshKernels, few_then, hold_bounded, in_stage, kernels_then, same_leaves, totals_then}
 use Rattle.state_bounds.proofs.Totals.{all_before, cell_counts, field_after}
 

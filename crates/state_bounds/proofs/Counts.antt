@@ -1,5 +1,5 @@
 -- Idle counts stay as they are until the check.
-use Rattle.std.proofs.Common.{◌≡◌, ℕ, ◌+◌, ◌*◌, ◌<◌, Bool, true, cond, List, length, arith, ap}
+use Rattle.std.proofs.Common.{◌≡◌, ℕ, ◌<◌, Bool, true, cond, List, length, arith, ap}
 use Rattle.std.proofs.lemmas.Bool.{and_from, lt-ltb}
 use Rattle.mesh_rules.specs.declared.wish.Wish.{Wish}
 use Rattle.mesh_rules.specs.Due.{Exchange}

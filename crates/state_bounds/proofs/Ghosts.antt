@@ -1,11 +1,10 @@
 -- What holds of the ghosts of nothing and of all ghosts that letters give holds of the ghosts of every buffer.
-use Rattle.std.proofs.Common.{◌≡◌, ◌==◌, ℕ, zero, suc, ◌-◌, ◌*◌, ◌/◌, ◌%◌, Bool, true, false, cond, Option, Some, None, List, [], ◌∷◌, find, map, refl, sym, subst, ap, ◌∙◌, ◌||◌, ◌&&◌, nat_lt}
+use Rattle.std.proofs.Common.{◌≡◌, ◌==◌, ℕ, zero, suc, ◌-◌, ◌*◌, ◌/◌, ◌%◌, Bool, true, false, cond, Option, Some, None, List, [], ◌∷◌, find, refl, subst, ◌||◌, ◌&&◌, nat_lt}
 use Rattle.cycle_rounds.specs.Events as rounds
 use Rattle.cycle_rounds.specs.Events.{Letter, State, after, put, step}
-use Rattle.cycle_rounds.specs.Plan.{Plan}
 use Rattle.sparse_rounds.specs.Kernels.{Kernels}
 use Rattle.sparse_rounds.specs.Masked.{Run}
-use Rattle.sparse_rounds.specs.Sparse.{Buf, Local, checked, filled, fixed, fluxed, free, keeps_checked, makes, nothing, plan_of, reacted, read, sparse, stage_work, tagged, tail_work, updated, with_cells, work_of}
+use Rattle.sparse_rounds.specs.Sparse.{Buf, Local, checked, filled, fixed, fluxed, keeps_checked, makes, nothing, plan_of, reacted, read, sparse, stage_work, tail_work, updated, with_cells, work_of}
 
 module _ {X V G F P W : Type 0} (k : Kernels X V G F P W) (start : Run V) (Fine : ℕ → G → Type 0) (none : (b : ℕ) → Fine b k.no_ghosts) (given : (b f : ℕ) (content : X → P) → Fine b (k.ghosts b f content)) where
   -- the buffers of a list are fine

@@ -7,7 +7,7 @@ use Rattle.problem_set.specs.SettingsOf.{settings_of}
 use Rattle.mesh_rules.specs.Sums.{sum_over, sum_to}
 use Rattle.mesh_rules.specs.Mesh.{Mesh, block_size, cell_at, sum_cells, sum_on, total_of}
 use Rattle.mesh_rules.specs.Fields.{field_count}
-use Rattle.mesh_rules.specs.Stage.{inflow_of, stage, staged}
+use Rattle.mesh_rules.specs.Stage.{inflow_of, staged}
 use Rattle.mesh_laws.proofs.Conserves.{stage_conserves}
 use Rattle.mesh_laws.proofs.Fillings.{filled_sum}
 use Rattle.mesh_laws.proofs.Pays.{term_least}

@@ -1,5 +1,5 @@
 -- How high idle counts come.
-use Rattle.std.specs.Prelude.{◌≡◌, ℕ, ◌+◌, ◌*◌, ◌<◌, List}
+use Rattle.std.specs.Prelude.{ℕ, ◌+◌, ◌*◌, ◌<◌, List}
 use Rattle.masked_cycles.specs.Cycles.{Cycle, IsCycle, IsPlace, kernels}
 use Rattle.cycle_events.specs.declared.event.Event.{Event}
 use Rattle.cycle_events.specs.Journals.{IsJournal}
