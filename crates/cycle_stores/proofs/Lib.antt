@@ -1,0 +1,4 @@
+pub mod Folds
+pub mod Kept
+pub mod OpenedPlaces
+pub mod Uses

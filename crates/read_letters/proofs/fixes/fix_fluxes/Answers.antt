@@ -1,0 +1,4 @@
+use Rattle.read_letters.proofs.fixes.fix_fluxes.Goals as goal
+
+pub returns : goal.returns
+returns c = ?

@@ -1,0 +1,10 @@
+use Rattle.read_letters.proofs.inflows.inflow_places.Goals as goal
+
+pub loop-block-init : goal.loop-block-init
+loop-block-init c = ?
+
+pub loop-block-preserved : goal.loop-block-preserved
+loop-block-preserved c = ?
+
+pub returns : goal.returns
+returns c = ?

@@ -1,0 +1,14 @@
+mod Posting
+mod Sums
+mod Takings
+mod Givings
+mod Deliveries
+mod Ready
+mod Idles
+mod Took
+mod Arrivals
+mod Gave
+mod DueLists
+mod Starts
+mod Endings
+mod Finished

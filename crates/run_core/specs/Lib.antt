@@ -1,0 +1,11 @@
+pub mod Runs
+pub mod Takes
+pub mod Events
+pub mod Ends
+pub mod Letters
+pub mod Standing
+pub mod Steps
+pub mod Arriving
+pub mod Giving
+pub mod Starting
+pub mod Ending
