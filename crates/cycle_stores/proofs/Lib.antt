@@ -1,4 +1,0 @@
-pub mod Folds
-pub mod Kept
-pub mod OpenedPlaces
-pub mod Uses

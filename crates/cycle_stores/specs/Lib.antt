@@ -1,4 +1,0 @@
-pub mod Stores
-pub mod Gives
-pub mod Openings
-pub mod Arrivals

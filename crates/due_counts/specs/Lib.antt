@@ -1,3 +1,0 @@
-pub mod DueLetters
-pub mod Counts
-pub mod Sides

@@ -1,2 +1,0 @@
-pub mod Reactions
-pub mod Settling

@@ -1,9 +1,0 @@
-pub mod Merged
-pub mod Held
-pub mod Ghosts
-pub mod Fluxes
-pub mod Calls
-pub mod OneLetter
-pub mod Found
-pub mod OwnPlaces
-pub mod Links
