@@ -16,9 +16,8 @@ use crate::state::DenseHeld;
 use block_layout::Layout;
 use block_tree::Tree;
 use dense_mask::keep_by_reaction;
-use dense_reaction::react;
+use dense_reaction::MeshReaction;
 use mesh_num::NoMemory;
-use package_fields::CellKernel;
 use problem_set::Problem;
 use std::alloc::Global;
 
@@ -31,43 +30,44 @@ pub(crate) struct ReactedHeld {
     pub dropped: Vec<u128>,
 }
 
-/// The reaction: a kernel changes each cell, what is then above the threshold is kept, and what is not kept is made
+/// The reaction: each cell is changed, what is then above the threshold is kept, and what is not kept is made
 /// zero.
-pub(crate) fn react_held<C: CellKernel>(
+pub(crate) fn react_held<R: MeshReaction>(
     alloc: Global,
-    kernel: &C,
+    reaction: &R,
     problem: &Problem,
     tree: &Tree,
     layout: &Layout,
-    held: &DenseHeld,
+    held: DenseHeld,
 ) -> Result<ReactedHeld, NoMemory>
-    requires held { IsHeldIn (settings_of problem.now) tree.now layout.now held.now }
-    requires fields { C.fields kernel.now ≡ field_count (settings_of problem.now) }
+    requires held { IsHeldIn (settings_of problem.now) tree.now layout.now held }
+    requires fields { R.fields reaction.now ≡ field_count (settings_of problem.now) }
     ensures held { IfOk result (λ r. held_of tree.now problem.now.cells r.held
-        ≡ react_held_of (settings_of problem.now) (C.reacts (C.code kernel.now))
-        (held_of tree.now problem.now.cells held.now)) }
+        ≡ react_held_of (settings_of problem.now) (R.reacts reaction.now)
+        (held_of tree.now problem.now.cells held)) }
     ensures kept { IfOk result (λ r. IsHeldIn (settings_of problem.now) tree.now layout.now r.held) }
     ensures made { IfOk result (λ r. r.made.items
         ≡ table (field_count (settings_of problem.now))
-        (made_of (C.reacts (C.code kernel.now)) (field_count (settings_of problem.now))
-        (mesh_of tree.now problem.now.cells held.now.lists))) }
+        (made_of (R.reacts reaction.now) (field_count (settings_of problem.now))
+        (mesh_of tree.now problem.now.cells held.lists))) }
     ensures used { IfOk result (λ r. r.used.items
         ≡ table (field_count (settings_of problem.now))
-        (used_of (C.reacts (C.code kernel.now)) (field_count (settings_of problem.now))
-        (mesh_of tree.now problem.now.cells held.now.lists))) }
+        (used_of (R.reacts reaction.now) (field_count (settings_of problem.now))
+        (mesh_of tree.now problem.now.cells held.lists))) }
     ensures dropped { IfOk result (λ r. r.dropped.items
         ≡ table (field_count (settings_of problem.now))
-        (drop_of_reaction (settings_of problem.now) (C.reacts (C.code kernel.now))
-        (held_of tree.now problem.now.cells held.now))) }
+        (drop_of_reaction (settings_of problem.now) (R.reacts reaction.now)
+        (held_of tree.now problem.now.cells held))) }
 {
-    let reacted = react(alloc, kernel, problem, tree, layout, held.lists.as_slice())?;
+    let DenseHeld { lists, slots: kept } = held;
+    let reacted = reaction.react_on(alloc, problem, tree, layout, lists.into_vec())?;
     let slots = keep_by_reaction(
         alloc,
         problem,
         tree,
         layout,
         reacted.lists.as_slice(),
-        held.slots.as_slice(),
+        kept.as_slice(),
     )?;
     let cut = cut_held(alloc, problem, tree, layout, reacted.lists, slots)?;
     Ok(ReactedHeld {

@@ -12,6 +12,7 @@ ghost use Rattle.dense_cycle.specs.Flows.{CanAdd, HasSums};
 ghost use Rattle.dense_cycle.specs.Held.{IsHeldIn, held_of, state_of};
 ghost use Rattle.dense_cycle.specs.Work.{FitsWork};
 
+use crate::room::Room;
 use crate::staging::stage;
 use crate::state::{DenseHeld, DenseState};
 use crate::sums::{StageSums, add_each, add_passed};
@@ -27,6 +28,7 @@ use std::alloc::Global;
 pub(crate) struct StagedCycle {
     pub held: DenseHeld,
     pub sums: StageSums,
+    pub room: Room,
 }
 
 /// One more stage, which adds to the sums.
@@ -66,6 +68,7 @@ pub(crate) fn run_stages(
     tree: &Tree,
     layout: &Layout,
     state: &DenseState,
+    room: Room,
 ) -> Result<StagedCycle, NoMemory>
     requires held { IsHeldIn (settings_of problem.now) tree.now layout.now state.now.held }
     requires fit { IsFit (settings_of problem.now) (state_of tree.now problem.now.cells state.now) }
@@ -75,7 +78,7 @@ pub(crate) fn run_stages(
     ensures sums { IfOk result (λ c. HasSums (settings_of problem.now)
         (state_of tree.now problem.now.cells state.now) problem.now.nstages c.sums) }
 {
-    let mut work = Work::new(alloc, layout, tree.len())?;
+    let mut work = room.refit(alloc, layout, tree.len())?;
     let mut sums = StageSums::zeros(alloc, problem.moves.len())?;
     let mut held = next_stage(
         alloc,
@@ -89,5 +92,6 @@ pub(crate) fn run_stages(
     for stage in 1..problem.nstages {
         held = next_stage(alloc, problem, tree, layout, &held, &mut work, &mut sums)?;
     }
-    Ok(StagedCycle { held, sums })
+    let room = Room::of(layout, tree.len(), work);
+    Ok(StagedCycle { held, sums, room })
 }

@@ -1,6 +1,6 @@
 //! Room for a stage.
 
-ghost use Rattle.std.specs.Prelude.{◌≡◌, ℕ, IfOk, length, map, replicate};
+ghost use Rattle.std.specs.Prelude.{◌≡◌, ℕ, [], IfOk, length, map, replicate};
 ghost use Rattle.block_layout.specs.Layouts.{len};
 ghost use Rattle.dense_cycle.specs.Work.{FitsWork};
 
@@ -30,6 +30,22 @@ fn zero_lists(alloc: Global, layout: &Layout, leaves: u32) -> Result<Vec<Cells>,
 }
 
 impl Work {
+    /// Room for no leaf.
+    pub(crate) fn empty(alloc: Global) -> Work
+        ensures ghosts { result.ghosts.items ≡ [] }
+        ensures right { result.faces.right.items ≡ [] }
+        ensures left { result.faces.left.items ≡ [] }
+    {
+        let faces = FaceLists {
+            right: Vec::new(alloc),
+            left: Vec::new(alloc),
+        };
+        Work {
+            ghosts: Vec::new(alloc),
+            faces,
+        }
+    }
+
     /// Room for a mesh with so many leaves.
     pub(crate) fn new(alloc: Global, layout: &Layout, leaves: u32) -> Result<Work, NoMemory>
         ensures { IfOk result (FitsWork layout.now leaves) }

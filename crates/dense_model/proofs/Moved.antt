@@ -87,7 +87,7 @@ moved_lists p s next l lists of dims cells has few is bound =
     }
 
 -- a run that stays on its tree
-pub stays_there : (p : Settings) (t : TreeOfBlocks) (l : Layout) (before : DenseState) (s : Settled) (cycle : ℕ) → IsSettled p t l before s → remeshes_at p cycle ≡ false → IsNextCycle p t l before cycle (record { tree = None; state = s.state; flows = s.flows; drops = s.drops })
+pub stays_there : (p : Settings) (t : TreeOfBlocks) (l : Layout) (before : DenseState) (s : Settled) (cycle : ℕ) → IsSettled p t l before s → remeshes_at p cycle ≡ false → IsNextCycle p t l before cycle (record { tree = None; state = s.state; flows = s.flows; drops = s.drops; room = s.room })
 stays_there p t l before s cycle is none =
     let k = kernel_of p in
     let b : State = state_of t p.cells before in

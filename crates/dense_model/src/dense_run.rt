@@ -18,7 +18,7 @@ use crate::opening::open;
 use crate::totals::sum_of_totals;
 use block_layout::Layout;
 use block_tree::Tree;
-use dense_cycle::DenseState;
+use dense_cycle::{DenseState, Room};
 use mesh_num::NoMemory;
 use mesh_outside::Files;
 use mesh_texts::{DumpWalk, dump_text, push_history_lines};
@@ -26,6 +26,7 @@ use package_fields::{Flow, Flows, Items};
 use problem_set::Problem;
 use std::alloc::Global;
 use std::marker::Model;
+use std::mem;
 
 /// The dense run of a problem, after some of its cycles: every field in every cell of every leaf, and what is kept of
 /// them.
@@ -39,6 +40,8 @@ pub struct DenseRun<'a> {
     state: DenseState,
     flows: Flows,
     drops: Items<u128>,
+    /// What the stages of the last cycle were made in.
+    room: Room,
 }
 
 impl<'a> Model for DenseRun<'a> {
@@ -98,6 +101,7 @@ impl<'a> DenseRun<'a> {
             state: opened.state,
             flows,
             drops,
+            room: Room::empty(alloc),
         })
     }
 
@@ -110,12 +114,14 @@ impl<'a> DenseRun<'a> {
         ensures fault { IfErr result (CannotGoOn self.old) }
         ensures unchanged { OnErr result (self.new ≡ self.old) }
     {
+        let room = mem::replace(&mut self.room, Room::empty(self.alloc));
         let next = next_cycle(
             self.alloc,
             self.problem,
             &self.tree,
             &self.layout,
             &self.state,
+            room,
             self.cycle + 1,
         )?;
         let Next {
@@ -123,11 +129,13 @@ impl<'a> DenseRun<'a> {
             state,
             flows,
             drops,
+            room,
         } = next;
         go_over(&mut self.tree, tree);
         self.state = state;
         self.flows = flows;
         self.drops = drops;
+        self.room = room;
         self.cycle += 1;
         Ok(())
     }

@@ -20,7 +20,8 @@ use crate::fault::DenseFault;
 use crate::kernel::kernel_of;
 use block_layout::Layout;
 use block_tree::{Tag, Tree, TreeFault};
-use dense_cycle::{DenseHeld, DenseState, Settled, settle};
+use dense_cycle::{DenseHeld, DenseState, Room, Settled, settle};
+use dense_reaction::{InCells, NoReaction};
 use dense_remesh::{carried_counters, carried_slots, remap};
 use mesh_num::NoMemory;
 use package_fields::{Flows, Items};
@@ -35,6 +36,8 @@ pub(crate) struct Next {
     pub state: DenseState,
     pub flows: Flows,
     pub drops: Items<u128>,
+    /// What the stages were made in.
+    pub room: Room,
 }
 
 /// Whether the tree may change after a cycle.
@@ -149,6 +152,7 @@ fn end_on_tree(
         state,
         flows: settled.flows,
         drops: settled.drops,
+        room: settled.room,
     })
 }
 
@@ -159,13 +163,22 @@ fn settle_problem(
     tree: &Tree,
     layout: &Layout,
     before: &DenseState,
+    room: Room,
 ) -> Result<Settled, NoMemory>
     requires held { IsHeldIn (settings_of problem.now) tree.now layout.now before.now.held }
     requires fit { IsFit (settings_of problem.now) (state_of tree.now problem.now.cells before.now) }
     ensures { IfOk result (IsSettled (settings_of problem.now) tree.now layout.now before.now) }
 {
+    if problem.reactions.is_empty() {
+        let none = NoReaction {
+            fields: problem.moves.len() as u32,
+        };
+        let settled = settle(alloc, &none, problem, tree, layout, before, room)?;
+        return Ok(settled);
+    }
     let kernel = kernel_of(alloc, problem)?;
-    let settled = settle(alloc, &kernel, problem, tree, layout, before)?;
+    let reactions = InCells { kernel };
+    let settled = settle(alloc, &reactions, problem, tree, layout, before, room)?;
     Ok(settled)
 }
 
@@ -177,6 +190,7 @@ pub(crate) fn next_cycle(
     tree: &Tree,
     layout: &Layout,
     before: &DenseState,
+    room: Room,
     cycle: u32,
 ) -> Result<Next, DenseFault>
     requires held { IsHeldIn (settings_of problem.now) tree.now layout.now before.now.held }
@@ -185,7 +199,7 @@ pub(crate) fn next_cycle(
     ensures fault { IfErr result (StopsCycle (settings_of problem.now)
         (state_of tree.now problem.now.cells before.now) cycle) }
 {
-    let settled = settle_problem(alloc, problem, tree, layout, before)?;
+    let settled = settle_problem(alloc, problem, tree, layout, before, room)?;
     if remeshes(problem, cycle) {
         return end_on_tree(alloc, problem, tree, layout, before, settled, cycle);
     }
@@ -194,5 +208,6 @@ pub(crate) fn next_cycle(
         state: settled.state,
         flows: settled.flows,
         drops: settled.drops,
+        room: settled.room,
     })
 }

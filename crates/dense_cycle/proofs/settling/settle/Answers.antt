@@ -14,22 +14,22 @@ use Rattle.dense_cycle.proofs.settling.settle.Goals as goal
 pub check_held-requires-clause-fits : goal.check_held-requires-clause-fits
 check_held-requires-clause-fits g c =
     let p = c.args.problem.now in
-    let react = g.C.CellKernel.reacts (g.C.CellKernel.code c.args.kernel.now) in
+    let react = g.R.MeshReaction.reacts c.args.reaction.now in
     reacted_mask p react (state_of c.args.tree.now p.cells c.args.state.now) c.requires.fit (held_of c.args.tree.now p.cells c.in_ok-reacted.reacted.held) c.in_ok-reacted.ensures.held
 
 pub add_each-requires-clause-numbers : goal.add_each-requires-clause-numbers
 add_each-requires-clause-numbers g c =
     let p = c.args.problem.now in
-    let react = g.C.CellKernel.reacts (g.C.CellKernel.code c.args.kernel.now) in
-    let laws = subst (λ k. KernelLaws k react) c.requires.fields (g.met.C.CellKernel.laws c.args.kernel.now) in
+    let react = g.R.MeshReaction.reacts c.args.reaction.now in
+    let laws = subst (λ k. KernelLaws k react) c.requires.fields (g.met.R.MeshReaction.laws c.args.reaction.now) in
     reacted_small p react (state_of c.args.tree.now p.cells c.args.state.now) laws c.requires.fit c.in_ok-reacted.reacted.sums c.in_ok-reacted.ensures.sums
 
 pub add_each-requires-clause-more : goal.add_each-requires-clause-more
 add_each-requires-clause-more g c =
     let p = c.args.problem.now in
     let q = settings_of p in
-    let react = g.C.CellKernel.reacts (g.C.CellKernel.code c.args.kernel.now) in
-    let laws = subst (λ k. KernelLaws k react) c.requires.fields (g.met.C.CellKernel.laws c.args.kernel.now) in
+    let react = g.R.MeshReaction.reacts c.args.reaction.now in
+    let laws = subst (λ k. KernelLaws k react) c.requires.fields (g.met.R.MeshReaction.laws c.args.reaction.now) in
     let s : State = state_of c.args.tree.now p.cells c.args.state.now in
     let h = held_of c.args.tree.now p.cells c.in_ok-reacted.reacted.held in
     all_in_table (λ n. n < 2 ^ 64) (field_count q) (drop_at_check q h) c.as_slice-3.result.now 0 (c.as_slice-3.ensures.value ∙ c.in_ok-checked.ensures.dropped)
@@ -40,7 +40,7 @@ returns-clause-state g c =
     let p = c.args.problem.now in
     let q = settings_of p in
     let t = c.args.tree.now in
-    let react = g.C.CellKernel.reacts (g.C.CellKernel.code c.args.kernel.now) in
+    let react = g.R.MeshReaction.reacts c.args.reaction.now in
     let s : State = state_of t p.cells c.args.state.now in
     let counters_is = c.from_vec.ensures ∙ c.in_ok-leaf_tags.ensures.counters
     ∙ ap (λ (v : List (List (List ℕ))). counters_after q (mesh_of t p.cells v) c.as_slice-2.result.now) c.as_slice.ensures
@@ -61,7 +61,7 @@ returns-clause-tags g c =
 pub returns-clause-drops : goal.returns-clause-drops
 returns-clause-drops g c =
     let p = c.args.problem.now in
-    let react = g.C.CellKernel.reacts (g.C.CellKernel.code c.args.kernel.now) in
+    let react = g.R.MeshReaction.reacts c.args.reaction.now in
     let s : State = state_of c.args.tree.now p.cells c.args.state.now in
     c.from_vec-3.ensures
     ∙ settled_drops p react s c.requires.fit (held_of c.args.tree.now p.cells c.in_ok-reacted.reacted.held) c.in_ok-reacted.reacted.sums c.add_each.new.numbers.items c.as_slice-3.result.now

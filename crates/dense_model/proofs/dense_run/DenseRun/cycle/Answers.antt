@@ -25,8 +25,8 @@ returns-in_err-next-clause-fault c =
     (subst (λ (v : RunAt). CannotGoOn v c.in_err-next.field-0.0) c.self.view_is
     (stops_run q i.cycle (reached_in q i.tree i.state i.flows i.drops) c.self.invariant.reached c.in_err-next.field-0.0 c.in_err-next.ensures.fault))
 
-pub invariant_of-self : goal.invariant_of-self
-invariant_of-self c =
+pub invariant_of-self-2 : goal.invariant_of-self-2
+invariant_of-self-2 c =
     let i = c.self.inside in
     let q = settings_of i.problem.now in
     let next = c.in_ok-next.next in
