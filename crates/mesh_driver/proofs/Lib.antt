@@ -1,4 +1,5 @@
 pub mod Cycles
+pub mod Ended
 pub mod Faults
 pub mod Gaining
 pub mod Passing

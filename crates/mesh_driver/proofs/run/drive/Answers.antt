@@ -8,6 +8,7 @@ use Rattle.mesh_driver.specs.declared.run.RunEnd.{RunEnd}
 use Rattle.mesh_driver.proofs.Faults.{fault_again, well}
 use Rattle.dense_model.proofs.FileLists.{lines_more}
 use Rattle.mesh_driver.proofs.Cycles.{closed_behind, gains_next, nothing_gained, started_gains, started_lines}
+use Rattle.mesh_driver.proofs.Ended.{ends}
 use Rattle.mesh_driver.proofs.Stopping.{all_gained, history_stops, stops_at_start, stops_in}
 use Rattle.mesh_driver.proofs.run.drive.Goals as goal
 
@@ -106,3 +107,10 @@ returns-clause-completed g c =
     let last : c.cycles.run.cycle ≡ c.cycles.run.problem.nlim = grind (arith, c.cycles-test.ensures) in
     let limit : c.cycles.run.problem.nlim ≡ c.args.problem.now.nlim = ap (λ (q : Settings). q.nlim) before.same in
     subst (λ (n : ℕ). IsRunning (run_of (settings_of c.args.problem.now) n)) (last ∙ limit) before.running
+
+pub returns-clause-end : goal.returns-clause-end
+returns-clause-end g c =
+    let before = c.cycles.invariant in
+    let last : c.cycles.run.cycle ≡ c.cycles.run.problem.nlim = grind (arith, c.cycles-test.ensures) in
+    let limit : c.cycles.run.problem.nlim ≡ c.args.problem.now.nlim = ap (λ (q : Settings). q.nlim) before.same in
+    ends (settings_of c.args.problem.now) c.cycles.run before.same (last ∙ limit) _ _ _ c.cycles-2.ensures.value c.leaves.ensures c.total.ensures.value
