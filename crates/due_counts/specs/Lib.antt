@@ -1,0 +1,3 @@
+pub mod DueLetters
+pub mod Counts
+pub mod Sides
