@@ -99,7 +99,7 @@ pub record IsWork (c : Cycle) (s : MeshState) (list : ℕ) (done : Finished) : T
   -- the letters that it sends
   pub sent : AllZip (IsLetter c) done.sent (posted (plan (on_mesh c)) (machine (on_mesh c)) s list)
   -- what is kept then: what was and comes to be kept, and is not freed
-  pub keeps : (b f : ℕ) → (kernels c).owner b ≡ list → (worked c s list).kept b f
+  pub keeps : (b f : ℕ) → IsPlace c b f → (kernels c).owner b ≡ list → (worked c s list).kept b f
       ≡ (((s.local list).kept b f || is_among done.keeps b f) && not (is_among done.freed b f))
   pub keeps_own : All (IsPlaceOf c list) done.keeps
   pub keeps_none : may_keep c (s.given list) ≡ false → done.keeps ≡ []
