@@ -5,9 +5,6 @@ use Rattle.std.proofs.lemmas.Bool.{cases_eq}
 use Rattle.std.proofs.lemmas.List.{length-set}
 use Rattle.morton_order.specs.declared.space.Loc.{Loc}
 use Rattle.block_tree.specs.Blocks.{TreeOfBlocks, leaves}
-use Rattle.mesh_rules.specs.Sums.{table}
-use Rattle.mesh_rules.specs.Mesh.{block_size, cell_at}
-use Rattle.mesh_rules.specs.Stage.{staged}
 use Rattle.block_layout.specs.declared.layout.Layout.{Layout}
 use Rattle.block_layout.specs.Layouts.{len}
 use Rattle.block_geometry.specs.Contents.{HasInterior, HasPairs}
@@ -15,7 +12,7 @@ use Rattle.transport_kernel.specs.Update.{CanPass, GhostsStay, HasPassed, listed
 use Rattle.dense_mesh.specs.Ghosts.{AreGhostLists, list_at}
 use Rattle.dense_stage.specs.declared.face_lists.FaceLists.{FaceLists}
 use Rattle.dense_stage.specs.Faces.{AreFaceLists}
-use Rattle.dense_stage.specs.Blocks.{FieldMesh, HavePairs, IsSoundMesh, OnLeaves, StaysSmall, block_in, mesh_in}
+use Rattle.dense_stage.specs.Blocks.{FieldMesh, HavePairs, IsSoundMesh, OnLeaves, StaysSmall, block_in, staged_list}
 use Rattle.dense_stage.specs.Own.{own_cells}
 use Rattle.dense_stage.proofs.Items.{item_is, set_here, set_other}
 use Rattle.dense_stage.proofs.LeafFlows.{leaf_at, sound_block}
@@ -35,10 +32,6 @@ ghosts_fit l n xs i x fit h same small = record {
     | inr ne ↦ subst (λ (v : List ℕ). All (λ total. total < 2 ^ 62) v) (sym (set_other xs i k x ne)) (fit.small k less)
   ];
 }
-
--- what a leaf has after the stage
-abbrev pub staged_list : TreeOfBlocks → FieldMesh → Loc → List ℕ
-staged_list t x o = table (block_size (mesh_in t x)) (λ place. staged x.settings (mesh_in t x) x.field (cell_at (mesh_in t x) o place))
 
 -- the leaves below a number are staged
 pub record Staging (t : TreeOfBlocks) (l : Layout) (x : FieldMesh) (leaf : ℕ) (ghosts : List (List ℕ)) : Type 0 where

@@ -10,4 +10,5 @@ pub mod SideDone
 pub mod LeavesDone
 pub mod Staged
 pub mod GhostLists
+pub mod EachLeaf
 pub mod Premises

@@ -31,7 +31,7 @@ use Rattle.correction_laws.specs.Replaced.{Covers, half_of}
 use Rattle.correction_laws.proofs.Digits.{child_of}
 use Rattle.dense_mesh.specs.Ghosts.{list_at}
 use Rattle.dense_stage.specs.declared.face_lists.FaceLists.{FaceLists}
-use Rattle.dense_stage.specs.Blocks.{FieldMesh, HasOwn, HasSidePairs, HaveOwn, IsSoundMesh, block_in}
+use Rattle.dense_stage.specs.Blocks.{FieldMesh, HasOwn, HasSidePairs, HaveOwn, IsSoundMesh, NoneFiner, NoneFinerAt, block_in}
 use Rattle.leaf_stages.proofs.Behinds.{inner_is_fine}
 use Rattle.dense_stage.proofs.Children.{child_again}
 use Rattle.dense_stage.proofs.LeafFlows.{sound_block}
@@ -100,11 +100,15 @@ own_side b axis high right left sound used own none i w at = by (is_finer_in b.m
     by false e = own.pairs i axis high used w e
     by true e = absurd (no_finer b axis high i sound used w at none e)
 
+-- nothing finer lies across a side behind which no finer leaves stand
+pub none_finer : (t : TreeOfBlocks) (axis : ℕ) (high : Bool) (r : Loc) (a : Answer) → numbered (leaves t) (behind t.shape (is_inner_of t) r axis high) ≡ Some a → ((ns : List ℕ) → a ≡ Fine ns → ⊥) → NoneFinerAt t r axis high
+none_finer t axis high r a is other o meets inner =
+    let f = inner_is_fine t.shape (is_inner_of t) (leaves t) axis high o a inner (ap (λ (v : Option Loc). numbered (leaves t) (behind_at t.shape (is_inner_of t) axis high v)) (sym meets) ∙ is) in other f.0 f.1
+
 pub not_fine_side : (t : TreeOfBlocks) (l : Layout) (x : FieldMesh) (leaf axis : ℕ) (high : Bool) (r : Loc) (a : Answer) (faces : FaceLists) → IsSoundMesh t l x → axis < l.dims → slice_get (leaves t) leaf ≡ Some r →
     numbered (leaves t) (behind t.shape (is_inner_of t) r axis high) ≡ Some a → ((ns : List ℕ) → a ≡ Fine ns → ⊥) → HaveOwn t l x faces → HasSidePairs (block_in t l x r) axis high (list_at faces.right.items leaf) (list_at faces.left.items leaf)
 not_fine_side t l x leaf axis high r a faces sound used get is other own =
-    own_side (block_in t l x r) axis high (list_at faces.right.items leaf) (list_at faces.left.items leaf) (sound_block t l x leaf r sound get) used (own leaf r get)
-    (λ o meets inner. let f = inner_is_fine t.shape (is_inner_of t) (leaves t) axis high o a inner (ap (λ (v : Option Loc). numbered (leaves t) (behind_at t.shape (is_inner_of t) axis high v)) (sym meets) ∙ is) in other f.0 f.1)
+    own_side (block_in t l x r) axis high (list_at faces.right.items leaf) (list_at faces.left.items leaf) (sound_block t l x leaf r sound get) used (own leaf r get) (none_finer t axis high r a is other)
 
 -- all sides
 pub all_pairs : (b : FieldBlock) (right left : List ℕ) → IsFieldBlock b → HasOwn b right left → ((axis : ℕ) (high : Bool) → axis < b.layout.dims → HasSidePairs b axis high right left) → HasPairs b right left
@@ -113,3 +117,9 @@ all_pairs b right left sound own sides i axis high used w = by (is_finer_in b.me
     by : (v : Bool) → is_finer_in b.mesh (cell_across b.mesh (cell_in b.mesh b.leaf i) axis high) ≡ v → HasPair b.layout right left i axis high (pair_of b i axis high)
     by false e = own.pairs i axis high used w e
     by true e = sides axis high used i w (finer_is_beside b i axis high sound used w e)
+
+-- where nothing finer lies across any side, the own pairs are those of all faces
+pub plain_pairs : (t : TreeOfBlocks) (l : Layout) (x : FieldMesh) (leaf : ℕ) (r : Loc) (right left : List ℕ) → IsSoundMesh t l x → slice_get (leaves t) leaf ≡ Some r → HasOwn (block_in t l x r) right left → NoneFiner l.dims t r → HasPairs (block_in t l x r) right left
+plain_pairs t l x leaf r right left sound get own none =
+    let s = sound_block t l x leaf r sound get in
+    all_pairs (block_in t l x r) right left s own (λ axis high used. own_side (block_in t l x r) axis high right left s used own (none axis high used))

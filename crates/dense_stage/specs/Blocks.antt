@@ -1,13 +1,15 @@
 -- For the code: a field on the leaves of a mesh in lists.
-use Rattle.std.specs.Prelude.{◌≡◌, ℕ, ◌<◌, ◌≤◌, ◌^◌, Bool, false, Some, List, slice_get, slice_index}
+use Rattle.std.specs.Prelude.{◌≡◌, ℕ, ◌<◌, ◌≤◌, ◌^◌, Bool, false, true, Some, List, slice_get, slice_index}
 use Rattle.morton_order.specs.declared.space.Loc.{Loc}
-use Rattle.block_tree.specs.Blocks.{TreeOfBlocks, leaves}
+use Rattle.morton_order.specs.Neighbours.{across}
+use Rattle.block_tree.specs.Blocks.{TreeOfBlocks, is_inner_of, leaves}
 use Rattle.problem_set.specs.Settings.{Settings}
 use Rattle.problem_set.specs.declared.problem.Problem.{Problem}
 use Rattle.problem_set.specs.SettingsOf.{settings_of}
-use Rattle.mesh_rules.specs.Mesh.{IsMesh, Mesh, stored}
+use Rattle.mesh_rules.specs.Mesh.{IsMesh, Mesh, block_size, cell_at, stored}
 use Rattle.mesh_rules.specs.Faces.{cell_across}
 use Rattle.mesh_rules.specs.Stage.{loss, staged}
+use Rattle.mesh_rules.specs.Sums.{table}
 use Rattle.block_layout.specs.declared.layout.Layout.{Layout}
 use Rattle.block_layout.specs.Indices.{IsWithin}
 use Rattle.block_layout.specs.Faces.{face_extents, face_number}
@@ -79,3 +81,16 @@ KeepPairs t l x old new = OnLeaves t (λ leaf o. KeepsPairs (block_in t l x o) (
 pub record StaysSmall (b : FieldBlock) : Type 0 where
   pub pays : (i : List ℕ) → IsWithin b.layout.cells i → loss b.settings b.mesh b.field (cell_in b.mesh b.leaf i) ≤ stored b.mesh b.field (cell_in b.mesh b.leaf i)
   pub small : (i : List ℕ) → IsWithin b.layout.cells i → staged b.settings b.mesh b.field (cell_in b.mesh b.leaf i) < 2 ^ 62
+
+-- no finer leaf stands across a side of a leaf
+abbrev pub NoneFinerAt : TreeOfBlocks → Loc → ℕ → Bool → Type 0
+NoneFinerAt t l axis high = (o : Loc) → across t.shape l axis high ≡ Some o → is_inner_of t o ≡ true → ⊥
+
+-- nor across any side
+abbrev pub NoneFiner : ℕ → TreeOfBlocks → Loc → Type 0
+NoneFiner dims t l = (axis : ℕ) (high : Bool) → axis < dims → NoneFinerAt t l axis high
+
+-- what a leaf has after the stage
+abbrev pub staged_list : TreeOfBlocks → FieldMesh → Loc → List ℕ
+staged_list t x o =
+    table (block_size (mesh_in t x)) (λ place. staged x.settings (mesh_in t x) x.field (cell_at (mesh_in t x) o place))

@@ -59,7 +59,7 @@ fn block_fluxes(
 }
 
 /// Writes what passes the faces of a leaf by its own cells and ghosts.
-fn leaf_fluxes(
+pub(crate) fn leaf_fluxes(
     problem: &Problem,
     tree: &Tree,
     layout: &Layout,

@@ -11,6 +11,7 @@ ghost use Rattle.dense_stage.specs.Faces.{AreFaceLists};
 
 use crate::corrections::correct;
 use crate::domain::domain_flows;
+use crate::each_leaf::{is_plain, stage_each};
 use crate::face_lists::FaceLists;
 use crate::own_fluxes::own_fluxes;
 use crate::staging::stage_leaves;
@@ -58,6 +59,9 @@ fn advance_leaves(
     ensures ghosts { AreGhostLists layout.now (length (leaves tree.now)) ghosts.new.items }
     ensures faces { AreFaceLists layout.now (length (leaves tree.now)) faces.new }
 {
+    if is_plain(tree, layout.dims) {
+        return stage_each(alloc, problem, tree, layout, field, ghosts, faces);
+    }
     own_fluxes(problem, tree, layout, field, ghosts, faces);
     correct(alloc, tree, layout, faces)?;
     let flows = domain_flows(tree, layout, faces);

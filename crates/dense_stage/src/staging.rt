@@ -67,7 +67,7 @@ fn write_own(layout: &Layout, cells: &[u64], own: &mut [u64])
 }
 
 /// The interior cells of a block, without its ghosts.
-fn own_of(alloc: Global, layout: &Layout, cells: &[u64]) -> Result<Cells, NoMemory>
+pub(crate) fn own_of(alloc: Global, layout: &Layout, cells: &[u64]) -> Result<Cells, NoMemory>
     requires { length cells.now ≡ len layout.now }
     ensures { IfOk result (λ own. own ≡ own_cells layout.now cells.now) }
 {
@@ -78,7 +78,7 @@ fn own_of(alloc: Global, layout: &Layout, cells: &[u64]) -> Result<Cells, NoMemo
 }
 
 /// Makes of a block's cells those after the stage.
-fn update_leaf(layout: &Layout, cells: &mut Cells, right: &Cells, left: &Cells)
+pub(crate) fn update_leaf(layout: &Layout, cells: &mut Cells, right: &Cells, left: &Cells)
     requires cell_list { length cells.old ≡ len layout.now }
     requires right_list { length right.now ≡ face_count layout.now }
     requires left_list { length left.now ≡ face_count layout.now }

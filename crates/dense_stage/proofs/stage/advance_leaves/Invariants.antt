@@ -1,5 +1,8 @@
 use Rattle.dense_stage.proofs.stage.advance_leaves.Given as goal
 
+abbrev pub ghost-stage_each : goal.ghost-stage_each
+ghost-stage_each g a = g.x
+
 abbrev pub ghost-own_fluxes : goal.ghost-own_fluxes
 ghost-own_fluxes g a = g.x.lists
 

@@ -1,6 +1,7 @@
 use Rattle.std.proofs.Common.{◌≡◌, map, take}
 use Rattle.block_tree.specs.Blocks.{leaves}
-use Rattle.dense_stage.proofs.GhostLists.{Staging, staged_list}
+use Rattle.dense_stage.specs.Blocks.{staged_list}
+use Rattle.dense_stage.proofs.GhostLists.{Staging}
 use Rattle.dense_stage.proofs.staging.stage_leaves.Given as goal
 
 abbrev pub invariant-loop-leaf : goal.invariant-loop-leaf
