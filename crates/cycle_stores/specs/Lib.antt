@@ -1,0 +1,4 @@
+pub mod Stores
+pub mod Gives
+pub mod Openings
+pub mod Arrivals
